@@ -1,5 +1,7 @@
 //! One event is entered and written down, and where it is refused, all is as it was.
 
+ghost use Rattle.std.specs.Prelude.{◌<◌, vec_len, vec_capacity};
+
 use super::frames::{FOR_OWN, in_lan};
 use super::steps::{Act, Outcome};
 use sr_forwarding::{Parcel, ReadFault, Role};
@@ -60,23 +62,53 @@ fn said(answer: &Answer) -> Outcome {
     }
 }
 
+/// Writes down what was answered. An event that was refused is let go.
+pub fn write_down(
+    log: &mut Log,
+    event: Event,
+    entered: Result<Answer, EnterFault>,
+) -> Result<(), EnterFault>
+    requires { vec_len log.old.pairs < vec_capacity log.old.pairs }
+{
+    match entered {
+        Ok(answer) => {
+            log.push(event, answer);
+            Ok(())
+        }
+        Err(fault) => {
+            drop(event);
+            Err(fault)
+        }
+    }
+}
+
 fn enter_and_log<R: Role, L: Ledger>(
     kept: &mut Kept<R, L>,
     pass: &mut Pass<L>,
     log: &mut Log,
     event: Event,
 ) -> Result<Outcome, EnterFault> {
-    log.reserve()?;
-    let answer = enter(kept, pass, &event)?;
-    let outcome = said(&answer);
-    log.push(event, answer);
+    if let Err(refused) = log.reserve() {
+        drop(event);
+        return Err(refused.into());
+    }
+    let entered = enter(kept, pass, &event);
+    let outcome = match &entered {
+        Ok(answer) => said(answer),
+        Err(_) => Outcome::Other,
+    };
+    write_down(log, event, entered)?;
     Ok(outcome)
 }
 
 // None where an allocation failed.
 fn is_still<R: Role>(node: &NodeOf<R>, before: &NodeImage) -> Option<bool> {
     match node.image() {
-        Ok(image) => Some(image == *before),
+        Ok(image) => {
+            let is_same = image == *before;
+            drop(image);
+            Some(is_same)
+        }
         Err(_) => None,
     }
 }
@@ -128,16 +160,28 @@ pub fn enter_beside<R: Role, L: Ledger>(
     event: Event,
 ) -> Option<Outcome> {
     match kept.node.image() {
-        Ok(before) => Some(enter_from(kept, pass, log, event, &before)),
-        Err(_) => None,
+        Ok(before) => {
+            let outcome = enter_from(kept, pass, log, event, &before);
+            drop(before);
+            Some(outcome)
+        }
+        Err(_) => {
+            drop(event);
+            None
+        }
     }
 }
 
 fn ticks_once<R: Role, L: Ledger>(kept: &mut Kept<R, L>, pass: &mut Pass<L>) -> bool {
-    match enter(kept, pass, &Event::Tick { now: 0 }) {
-        Ok(answer) => said(&answer) == Outcome::Ticked,
+    let event = Event::Tick { now: 0 };
+    let entered = enter(kept, pass, &event);
+    drop(event);
+    let is_ticked = match &entered {
+        Ok(answer) => said(answer) == Outcome::Ticked,
         Err(_) => false,
-    }
+    };
+    drop(entered);
+    is_ticked
 }
 
 /// Enters so many ticks of time 0 and writes none of them down. An allocation that fails is met by another try.

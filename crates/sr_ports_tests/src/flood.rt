@@ -3,12 +3,15 @@
 
 ghost use Rattle.std.specs.Prelude.{◌≡◌};
 
+use super::entering::write_down;
 use super::flood_tally::{NOTHING, Tally};
 use super::frames::{EVERYONE, OWN, plain_from, tagged_from};
 use sr_forwarding::{Framing, HsrFraming, Parcel, PlainFraming, ReadFault, Role};
 use sr_frame::{Frame, Mac, Port};
 use sr_node::{Answer, Event, NodeOf};
-use sr_ports::{EnterFault, Log, Pass, Passes, Settlement, SharedNode, Worker, enter, settle};
+use sr_ports::{
+    EnterFault, Kept, Log, Pass, Passes, Settlement, SharedNode, Worker, enter, settle,
+};
 use sr_redbox::SanBox;
 use std::alloc::Global;
 use std::marker::Brand;
@@ -102,10 +105,13 @@ fn enter_one<R: Role, L: Ledger, W: Wait>(
     log: &mut Log,
     event: Event,
 ) -> Result<bool, EnterFault> {
-    log.reserve()?;
-    let answer = enter(&mut *shared.kept.lock(rt), pass, &event)?;
-    let is_taken = matches!(answer, Answer::Taken(Some(_)));
-    log.push(event, answer);
+    if let Err(refused) = log.reserve() {
+        drop(event);
+        return Err(refused.into());
+    }
+    let entered = enter(&mut *shared.kept.lock(rt), pass, &event);
+    let is_taken = matches!(entered, Ok(Answer::Taken(Some(_))));
+    write_down(log, event, entered)?;
     Ok(is_taken)
 }
 
@@ -307,25 +313,47 @@ fn flooded<R: Role + Send, L: Ledger + Send + Sync, W: Threads + Wait + Sync>(
 // out at A, B and C, and whether each was flooded.
 type Report = (Settlement, usize, u64, [u64; 3], [bool; 3]);
 
+// The log of a thread that is done.
+fn log_of<L: Ledger>(hand: Hand<L>) -> Log {
+    let Hand { pass, log, .. } = hand;
+    drop(pass);
+    log
+}
+
+fn report_of<R: Role, L: Ledger>(kept: Kept<R, L>, hands: Hands<L>) -> Report {
+    let Hands { a, b, c, host } = hands;
+    let waiting = kept.node.waiting(Port::H);
+    let entered = host.tally.entered;
+    let taken = [a.tally.taken, b.tally.taken, c.tally.taken];
+    let floods = [a.tally.is_flood(), b.tally.is_flood(), c.tally.is_flood()];
+    let logs = [log_of(a), log_of(b), log_of(c), log_of(host)];
+    let settlement = settle(kept.journal.as_slice(), &logs);
+    drop(logs);
+    drop(kept);
+    (settlement, waiting, entered, taken, floods)
+}
+
 fn told<R: Role + Send, L: Ledger + Send + Sync, W: Threads + Wait + Sync>(
     rt: &W,
     alloc: Global,
     shared: SharedNode<R, L>,
     passes: Passes<L>,
 ) -> Report {
-    let Passes { a, b, c, host, .. } = passes;
+    let Passes {
+        a,
+        b,
+        c,
+        ager,
+        host,
+    } = passes;
+    drop(ager);
     let mut a = hand_of(alloc, a, Worker::A);
     let b = hand_of(alloc, b, Worker::B);
     let mut c = hand_of(alloc, c, Worker::C);
     let mut host = hand_of(alloc, host, Worker::Host);
     fill(rt, alloc, &shared, &mut a, &mut c, &mut host);
-    let Hands { a, b, c, host } = flooded(rt, alloc, &shared, Hands { a, b, c, host });
-    let kept = shared.into_kept();
-    let waiting = kept.node.waiting(Port::H);
-    let taken = [a.tally.taken, b.tally.taken, c.tally.taken];
-    let floods = [a.tally.is_flood(), b.tally.is_flood(), c.tally.is_flood()];
-    let settlement = settle(kept.journal.as_slice(), &[a.log, b.log, c.log, host.log]);
-    (settlement, waiting, host.tally.entered, taken, floods)
+    let hands = flooded(rt, alloc, &shared, Hands { a, b, c, host });
+    report_of(shared.into_kept(), hands)
 }
 
 fn reported<R: Role + Send, L: Ledger + Send + Sync, W: Threads + Wait + Sync>(

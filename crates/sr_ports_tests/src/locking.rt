@@ -13,23 +13,38 @@ use std::marker::Brand;
 use std::sync::Wait;
 use std::sync::ledger::{Blank, Ledger};
 
-// The node sends a life check, and another node's frame comes in. None where an allocation failed, here and below.
-fn works<R: Role>(alloc: Global, node: &mut NodeOf<R>) -> Option<()> {
-    node.step(&Event::Tick { now: 2000 }).ok()?;
+// Whether the node takes the event.
+fn takes<R: Role>(node: &mut NodeOf<R>, event: Event) -> bool {
+    let stepped = node.step(&event);
+    drop(event);
+    let is_taken = stepped.is_ok();
+    drop(stepped);
+    is_taken
+}
+
+// The other node's frame comes in. None where an allocation failed, here and below.
+fn arrival(alloc: Global) -> Option<Event> {
     let parcel = in_lan(alloc, Lan::B, 5).ok()?;
-    let arrival = Event::Arrive {
+    Some(Event::Arrive {
         port: Port::B,
         parcel,
         now: 2500,
-    };
-    node.step(&arrival).ok()?;
-    Some(())
+    })
+}
+
+// The node sends a life check, and another node's frame comes in.
+fn works<R: Role>(alloc: Global, node: &mut NodeOf<R>) -> Option<()> {
+    let is_sent = takes(node, Event::Tick { now: 2000 });
+    let is_heard = takes(node, arrival(alloc)?);
+    (is_sent && is_heard).then_some(())
 }
 
 // Whether it is the node as it was, with an empty journal that opens with it.
 fn is_as_it_was<R: Role, L: Ledger>(kept: &Kept<R, L>, before: &NodeImage) -> Option<bool> {
     let now = kept.node.image().ok()?;
-    Some(now == *before && kept.opening == *before && kept.journal.is_empty() && kept.closed == 0)
+    let is_same = now == *before;
+    drop(now);
+    Some(is_same && kept.opening == *before && kept.journal.is_empty() && kept.closed == 0)
 }
 
 // Whether it is so under the lock, and behind it.
@@ -44,6 +59,7 @@ fn stays<R: Role, L: Ledger, W: Wait>(
     };
     let kept = shared.into_kept();
     let behind = is_as_it_was(&kept, before);
+    drop(kept);
     Some(under? && behind?)
 }
 
@@ -78,10 +94,18 @@ fn told<R: Role, L: Ledger, W: Wait>(
     requires five { L.parts ≡ 5 }
 {
     let mut node = node;
-    works(alloc, &mut node)?;
-    match node.image() {
-        Ok(before) => stays_as::<R, L, W>(rt, alloc, node, &before, blank),
-        Err(_) => None,
+    let works = works(alloc, &mut node);
+    match (works, node.image()) {
+        (Some(()), Ok(before)) => {
+            let stays = stays_as::<R, L, W>(rt, alloc, node, &before, blank);
+            drop(before);
+            stays
+        }
+        (_, image) => {
+            drop(image);
+            drop(node);
+            None
+        }
     }
 }
 

@@ -45,8 +45,7 @@ fn answer_of(pair: Pair) -> Answer {
     }
 }
 
-fn entries_of(alloc: Global, rows: &[(Worker, Pair)]) -> Result<Vec<Entry>, NoMemory> {
-    let mut entries = Vec::new(alloc);
+fn add_entries(entries: &mut Vec<Entry>, rows: &[(Worker, Pair)]) -> Result<(), NoMemory> {
     for (worker, pair) in rows {
         entries.reserve(1)?;
         entries.push_reserved(Entry {
@@ -55,16 +54,15 @@ fn entries_of(alloc: Global, rows: &[(Worker, Pair)]) -> Result<Vec<Entry>, NoMe
             answer: answer_of(*pair),
         });
     }
-    Ok(entries)
+    Ok(())
 }
 
-fn log_of(alloc: Global, worker: Worker, pairs: &[Pair]) -> Result<Log, NoMemory> {
-    let mut log = Log::new(alloc, worker);
+fn add_pairs(log: &mut Log, pairs: &[Pair]) -> Result<(), NoMemory> {
     for pair in pairs {
         log.reserve()?;
         log.push(event_of(*pair), answer_of(*pair));
     }
-    Ok(log)
+    Ok(())
 }
 
 // The pairs of a worker's log, if it has one.
@@ -77,44 +75,52 @@ fn pairs_of(worker: Worker, logs: Logs) -> Option<&'static [Pair]> {
     }
 }
 
-fn add_log(logs: &mut Vec<Log>, log: Log) -> Result<(), NoMemory> {
+// A log that lacks pairs for which an allocation failed is added too.
+fn add_log(
+    alloc: Global,
+    logs: &mut Vec<Log>,
+    worker: Worker,
+    pairs: &[Pair],
+) -> Result<(), NoMemory> {
     logs.reserve(1)?;
+    let mut log = Log::new(alloc, worker);
+    let added = add_pairs(&mut log, pairs);
     logs.push_reserved(log);
-    Ok(())
+    added
 }
 
 // Each worker's log, in another order than that of the workers.
 fn add_logs(alloc: Global, logs: &mut Vec<Log>, which: Logs) -> Result<(), NoMemory> {
     for worker in [Worker::Host, Worker::B, Worker::A, Worker::Ager, Worker::C] {
         if let Some(pairs) = pairs_of(worker, which) {
-            add_log(logs, log_of(alloc, worker, pairs)?)?;
+            add_log(alloc, logs, worker, pairs)?;
         }
     }
     match which {
-        Logs::Further(worker) => add_log(logs, Log::new(alloc, worker)),
+        Logs::Further(worker) => add_log(alloc, logs, worker, &[]),
         _ => Ok(()),
     }
 }
 
-fn logs_of(alloc: Global, which: Logs) -> Result<Vec<Log>, NoMemory> {
-    let mut logs = Vec::new(alloc);
-    add_logs(alloc, &mut logs, which)?;
-    Ok(logs)
-}
-
 // What the logs settle to. None where an allocation failed, here and below.
 fn settled_beside(alloc: Global, entries: &[Entry], case: &Case) -> Option<Settlement> {
-    match logs_of(alloc, case.1) {
-        Ok(logs) => Some(settle(entries, logs.as_slice())),
+    let mut logs = Vec::new(alloc);
+    let settled = match add_logs(alloc, &mut logs, case.1) {
+        Ok(()) => Some(settle(entries, logs.as_slice())),
         Err(_) => None,
-    }
+    };
+    drop(logs);
+    settled
 }
 
 fn settled(alloc: Global, case: &Case) -> Option<Settlement> {
-    match entries_of(alloc, case.0) {
-        Ok(entries) => settled_beside(alloc, entries.as_slice(), case),
+    let mut entries = Vec::new(alloc);
+    let settled = match add_entries(&mut entries, case.0) {
+        Ok(()) => settled_beside(alloc, entries.as_slice(), case),
         Err(_) => None,
-    }
+    };
+    drop(entries);
+    settled
 }
 
 // An allocation that fails is met by another try.

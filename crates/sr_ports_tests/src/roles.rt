@@ -61,7 +61,11 @@ fn comes_in<R: Role, L: Ledger>(
         parcel,
         now: 0,
     };
-    outlets_of(&enter(kept, pass, &event))
+    let entered = enter(kept, pass, &event);
+    drop(event);
+    let outlets = outlets_of(&entered);
+    drop(entered);
+    outlets
 }
 
 // Whether each goes where it has to. An allocation that fails is met by another try.
@@ -82,14 +86,21 @@ fn go<R: Role, L: Ledger>(
     true
 }
 
+// The kind of a role that is let go.
+fn kind_of<R: Role>(role: R) -> RoleKind {
+    let kind = role.kind();
+    drop(role);
+    kind
+}
+
 // The kind of the role that comes back, and why it is the given one, if it is.
 fn given_back<R: Role, L: Ledger>(kept: &mut Kept<R, L>, role: R) -> (RoleKind, Option<SwapFault>) {
     match kept.replace_role(role) {
         Ok((segment, old)) => {
             drop(segment);
-            (old.kind(), None)
+            (kind_of(old), None)
         }
-        Err((fault, given)) => (given.kind(), Some(fault)),
+        Err((fault, given)) => (kind_of(given), Some(fault)),
     }
 }
 
@@ -101,13 +112,13 @@ fn lives<R: Role, L: Ledger>(
     foreign: R,
     san: R,
 ) -> bool {
-    go(alloc, kept, pass, FIRST)
-        && given_back(kept, foreign) == (RoleKind::Danh, Some(SwapFault::OtherMac))
-        && kept.journal.len() == FIRST.len()
-        && given_back(kept, san) == (RoleKind::Danh, None)
+    let begins = go(alloc, kept, pass, FIRST);
+    let is_refused = given_back(kept, foreign) == (RoleKind::Danh, Some(SwapFault::OtherMac))
+        && kept.journal.len() == FIRST.len();
+    let is_taken = given_back(kept, san) == (RoleKind::Danh, None)
         && kept.journal.is_empty()
-        && kept.node.kind() == RoleKind::San
-        && go(alloc, kept, pass, FURTHER)
+        && kept.node.kind() == RoleKind::San;
+    begins && is_refused && is_taken && go(alloc, kept, pass, FURTHER)
 }
 
 fn lived<R: Role, L: Ledger, W: Wait>(
@@ -132,7 +143,10 @@ fn lived<R: Role, L: Ledger, W: Wait>(
             drop(passes);
             is_right
         }
-        Err(_) => false,
+        Err(_) => {
+            drop((foreign, san));
+            false
+        }
     }
 }
 
@@ -157,7 +171,10 @@ fn with_roles<W: Wait>(
 ) -> Option<bool> {
     match Node::new(alloc, danh) {
         Ok(node) => Some(lived_in_boxes(rt, alloc, node, foreign, san)),
-        Err(_) => None,
+        Err(_) => {
+            drop((foreign, san));
+            None
+        }
     }
 }
 

@@ -9,7 +9,7 @@ use super::frames::OWN;
 use sr_forwarding::Role;
 use sr_frame::{NoMemory, Port};
 use sr_node::{Answer, NodeImage, NodeOf, StepFault};
-use sr_ports::{EnterFault, Kept, Pass, SharedNode, enter, rotate};
+use sr_ports::{EnterFault, Kept, Pass, Passes, SharedNode, enter, rotate};
 use sr_redbox::SanBox;
 use sr_sequence::Seq;
 use std::alloc::Global;
@@ -69,8 +69,9 @@ fn answer_mark(answer: &Answer) -> u64 {
 }
 
 impl Told {
-    fn note(&mut self, entered: &Result<Answer, EnterFault>) {
-        let mark = match entered {
+    // Counts what was answered, and lets it go.
+    fn note(&mut self, entered: Result<Answer, EnterFault>) {
+        let mark = match &entered {
             Ok(answer) => {
                 self.taken = self.taken.saturating_add(1);
                 answer_mark(answer)
@@ -84,6 +85,7 @@ impl Told {
                 4
             }
         };
+        drop(entered);
         self.mark = self.mark.wrapping_mul(1_000_003).wrapping_add(mark);
     }
 }
@@ -101,7 +103,9 @@ fn stepped<R: Role>(
     draw: &Draw,
 ) -> Result<Answer, EnterFault> {
     let event = event_of(alloc, draw)?;
-    Ok(node.step(&event)?)
+    let stepped = node.step(&event);
+    drop(event);
+    Ok(stepped?)
 }
 
 fn step_all<R: Role>(alloc: Global, node: &mut NodeOf<R>) -> Told {
@@ -109,7 +113,7 @@ fn step_all<R: Role>(alloc: Global, node: &mut NodeOf<R>) -> Told {
     let mut told = NOTHING;
     for _ in 0..EVENTS {
         let draw = drawing.next();
-        told.note(&stepped(alloc, node, &draw));
+        told.note(stepped(alloc, node, &draw));
     }
     told
 }
@@ -118,8 +122,12 @@ fn step_all<R: Role>(alloc: Global, node: &mut NodeOf<R>) -> Told {
 fn plain(alloc: Global) -> Option<End> {
     let mut node = NodeOf::new(alloc, SanBox::new(alloc, OWN)).ok()?;
     let told = step_all(alloc, &mut node);
-    let image = node.image().ok()?;
-    Some(End { told, image })
+    let image = node.image();
+    drop(node);
+    Some(End {
+        told,
+        image: image.ok()?,
+    })
 }
 
 fn enter_under_lock<R: Role, L: Ledger, W: Wait>(
@@ -130,7 +138,9 @@ fn enter_under_lock<R: Role, L: Ledger, W: Wait>(
     draw: &Draw,
 ) -> Result<Answer, EnterFault> {
     let event = event_of(alloc, draw)?;
-    enter(&mut *shared.kept.lock(rt), pass, &event)
+    let entered = enter(&mut *shared.kept.lock(rt), pass, &event);
+    drop(event);
+    entered
 }
 
 // An allocation that fails is met by another try, here and below.
@@ -171,7 +181,7 @@ fn enter_all<R: Role, L: Ledger, W: Wait>(
     let mut told = NOTHING;
     for _ in 0..EVENTS {
         let draw = drawing.next();
-        told.note(&entered(rt, alloc, shared, pass, &draw));
+        told.note(entered(rt, alloc, shared, pass, &draw));
         if drawing.is_round() {
             close(rt, shared);
         }
@@ -197,19 +207,20 @@ fn told_by_shared<R: Role, L: Ledger, W: Wait>(
     is_counted.then_some(told)
 }
 
-fn are_equal(shared: &End, plain: &End) -> bool {
-    shared.told == plain.told && shared.told.short == 0 && shared.image == plain.image
+// Whether the shared node answered and ended as the plain one, and no allocation failed at last.
+fn is_equal(told: Told, image: &NodeImage, plain: &End) -> bool {
+    told == plain.told && told.short == 0 && *image == plain.image
 }
 
 // Whether both came to an end, and are equal.
 fn is_right(told: Option<Told>, image: Option<NodeImage>, plain: Option<End>) -> bool {
-    let (Some(told), Some(image)) = (told, image) else {
-        return false;
+    let is_right = match (told, &image, &plain) {
+        (Some(told), Some(image), Some(plain)) => is_equal(told, image, plain),
+        _ => false,
     };
-    match plain {
-        Some(plain) => are_equal(&End { told, image }, &plain),
-        None => false,
-    }
+    drop(image);
+    drop(plain);
+    is_right
 }
 
 // The plain node is on the thread that is started, so that none of its allocations fails. So is the image of the shared node:
@@ -241,7 +252,15 @@ fn soaked<L: Ledger + Send + Sync, W: Threads + Wait + Sync>(
 {
     match SharedNode::<SanBox, L>::new(alloc, node, blank) {
         Ok((shared, passes)) => {
-            let is_right = both(rt, alloc, &shared, passes.a);
+            let Passes {
+                a,
+                b,
+                c,
+                ager,
+                host,
+            } = passes;
+            drop((b, c, ager, host));
+            let is_right = both(rt, alloc, &shared, a);
             drop(shared);
             is_right
         }
