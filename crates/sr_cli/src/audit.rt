@@ -18,21 +18,24 @@ use crate::clocks::{Known, on_clocks, read_clocks, read_once, recorders_of_audit
 use crate::dated::{Dated, Dating};
 use crate::files::Sides;
 use crate::order::check_order;
+use crate::owned::beside;
 use crate::pipes::Pipe;
 use crate::progress::Progress;
 use crate::script::tell_ended;
 use cuts::Cuts;
 use hints::tell_odd;
 use nodes::read_nodes;
-use passes::{Read, open, read_all};
+use passes::{Read, read_all, read_front};
 use sr_advice::letter_of;
+use sr_audit::Spans;
+use sr_capture_audit::Summary;
 use sr_capture_script::{Inlet, ScriptFault};
 use sr_dates::Moment;
 use sr_options::{AuditTask, Format, Paths, Times};
 use sr_slots::Keys;
 use sr_sources::Sources;
 use sr_verdict::{Limits, Verdict};
-use std::io::{self, BufWriter};
+use std::io::{self, BufWriter, Printer};
 use std::random::RandomSource;
 use std::rt::Files;
 use subjects::subject_on;
@@ -64,6 +67,12 @@ enum Stop {
     Early(Ended),
     /// What standard error has been told of: the exit status.
     Told(u8),
+}
+
+impl From<Ended> for Stop {
+    fn from(ended: Ended) -> Stop {
+        Stop::Early(ended)
+    }
 }
 
 impl From<u8> for Stop {
@@ -99,7 +108,7 @@ fn read_and_judge<R: AllocGlobal + Eprint + Files>(
 ) -> Result<(Read, Sources, Vec<Verdict>), Ended> {
     let subject = subject_on(rt, task, known)?;
     let read = read_all(rt, task, subject, keys, progress)?;
-    let (sources, dropped) = read_nodes(rt, task, keys)?;
+    let ((sources, dropped), read) = beside(read_nodes(rt, task, keys), read)?;
     let limits = Limits {
         lost: task.max_lost,
         skew: task.max_skew,
@@ -112,7 +121,8 @@ fn read_and_judge<R: AllocGlobal + Eprint + Files>(
         read.are_both_ways,
         dropped,
         limits,
-    )?;
+    );
+    let (verdicts, (read, sources)) = beside(verdicts, (read, sources))?;
     Ok((read, sources, verdicts))
 }
 
@@ -124,8 +134,7 @@ fn dating_of<R: AllocGlobal + Eprint + Files>(
     if task.times == Times::Relative {
         return Ok(Dating::Relative);
     }
-    let captures = open(rt, task, Progress::Silent)?;
-    let Some(front) = captures.front() else {
+    let Some(front) = read_front(rt, task)? else {
         return Ok(Dating::Relative);
     };
     let first = Moment(front.moment.saturating_sub(task.early));
@@ -133,6 +142,38 @@ fn dating_of<R: AllocGlobal + Eprint + Files>(
         Format::Json => Ok(Dating::Objects(first)),
         _ => Ok(Dating::Words(first)),
     }
+}
+
+/// What an audit is written to.
+type Written<'a, R> = Dated<BufWriter<Pipe<Printer<'a, R>>>>;
+
+/// A writer to standard output, where nothing was written.
+fn writer_of<'a, R: AllocGlobal + Print + Eprint + Files>(
+    rt: &'a R,
+    task: &AuditTask<'_>,
+) -> Result<Written<'a, R>, Ended> {
+    let dating = dating_of(rt, task)?;
+    match BufWriter::new(rt.alloc(), Pipe::new(io::writer(rt))) {
+        Ok(buffered) => Ok(Dated::new(rt.alloc(), buffered, dating)),
+        Err(_) => Err(Ended::By(ScriptFault::NoMemory)),
+    }
+}
+
+/// Says what looks wrong in captures of which all was written, and how a check ends. The error is the exit status.
+fn tell_end<R: Eprint + Files>(
+    rt: &R,
+    task: &AuditTask<'_>,
+    cuts: Cuts,
+    recorded: &Spans,
+    summary: &Summary,
+    verdicts: &[Verdict],
+) -> Result<(), u8> {
+    tell_odd(rt, task, recorded, summary);
+    cuts.tell(rt, task)?;
+    if task.is_check {
+        check(rt, verdicts)?;
+    }
+    Ok(())
 }
 
 /// Audits the captures on the clocks that are known: those that end within a packet up to there, of which is told at the end.
@@ -144,21 +185,11 @@ fn run_on_clocks<R: AllocGlobal + Print + Eprint + Files>(
     cuts: Cuts,
     progress: Progress,
 ) -> Result<(), Stop> {
-    let (read, sources, verdicts) = match read_and_judge(rt, task, keys, known, progress) {
-        Ok(judged) => judged,
-        Err(ended) => return Err(Stop::Early(ended)),
-    };
-    let dating = match dating_of(rt, task) {
-        Ok(dating) => dating,
-        Err(ended) => return Err(Stop::Early(ended)),
-    };
-    let Ok(buffered) = BufWriter::new(rt.alloc(), Pipe::new(io::writer(rt))) else {
-        return Err(Stop::Early(Ended::By(ScriptFault::NoMemory)));
-    };
-    let mut writer = Dated::new(rt.alloc(), buffered, dating);
+    let judged = read_and_judge(rt, task, keys, known, progress)?;
+    let (mut writer, (read, sources, verdicts)) = beside(writer_of(rt, task), judged)?;
     let Read { times, report, .. } = read;
     let summary = report.summary();
-    if let Err(ended) = write_all(
+    let written = write_all(
         rt,
         task,
         keys,
@@ -169,16 +200,17 @@ fn run_on_clocks<R: AllocGlobal + Print + Eprint + Files>(
         &sources,
         &verdicts,
         &mut writer,
-    ) {
-        let is_closed = writer.get_ref().get_ref().is_closed();
-        return Err(Stop::Told(tell(rt, task, ended, is_closed)));
-    }
-    tell_odd(rt, task, &times.recorded, &summary);
-    cuts.tell(rt, task)?;
-    if task.is_check {
-        check(rt, &verdicts)?;
-    }
-    Ok(())
+    );
+    drop(sources);
+    let told = match written {
+        Ok(()) => tell_end(rt, task, cuts, &times.recorded, &summary, &verdicts),
+        Err(ended) => {
+            let is_closed = writer.get_ref().get_ref().is_closed();
+            Err(tell(rt, task, ended, is_closed))
+        }
+    };
+    drop((writer, verdicts));
+    Ok(told?)
 }
 
 /// Refuses a capture that is none of files, as a pipe, since an audit reads it more than once. The error is the exit status.

@@ -1,8 +1,9 @@
 //! The clocks of the recorders of two captures: read ahead of all else, by passes of their own.
 
 use crate::audit::Ended;
-use crate::files::{Opened, open_file};
+use crate::files::{Opened, open_captures};
 use crate::meanings::network_of;
+use crate::owned::{beside, both};
 use crate::progress::Progress;
 use crate::script::tell_other;
 use sr_advice::letter_of;
@@ -10,7 +11,9 @@ use sr_capture_audit::{Format, Judgement, Reason, clocks_between, delays_by, pri
 use sr_capture_script::{Captures, Inlet, Options, ScriptFault};
 use sr_clocks::{Clocks, Line};
 use sr_options::{AuditTask, MergeTask, Network, Paths, Ports, ScriptTask, Shift};
+use std::alloc::Global;
 use std::fmt;
+use std::io::BufRead;
 use std::rt::Files;
 
 /// How many frames tell of clocks where nobody asked for them.
@@ -136,21 +139,11 @@ fn open_alone<'a, R: AllocGlobal + Eprint + Files>(
     inlet: Inlet,
     progress: Progress,
 ) -> Result<Captures<Opened<'a, R>>, Ended> {
-    let interfaces = recorders.options.interfaces;
     let (a, b) = match inlet {
         Inlet::A => (recorders.a, None),
         Inlet::B | Inlet::C => (None, recorders.b),
     };
-    let Ok(a) = open_file(rt, Inlet::A, a, interfaces.a, progress) else {
-        return Err(Ended::Unopened);
-    };
-    let Ok(b) = open_file(rt, Inlet::B, b, interfaces.b, progress) else {
-        return Err(Ended::Unopened);
-    };
-    match Captures::open(rt.alloc(), a, b, None, &recorders.options) {
-        Ok(captures) => Ok(captures),
-        Err(fault) => Err(Ended::By(fault)),
-    }
+    open_captures(rt, a, b, &recorders.options, progress)
 }
 
 impl Recorders<'_> {
@@ -160,13 +153,13 @@ impl Recorders<'_> {
     }
 
     /// What the frames of both captures, each opened alone, tell of their clocks.
-    fn told_by<'a, R: AllocGlobal + Eprint + Files>(
+    fn told_by<C: BufRead + Drop>(
         &self,
-        rt: &'a R,
-        a: &mut Captures<Opened<'a, R>>,
-        b: &mut Captures<Opened<'a, R>>,
+        alloc: Global,
+        a: &mut Captures<C>,
+        b: &mut Captures<C>,
     ) -> Result<Known, ScriptFault> {
-        let (clocks, ahead) = clocks_between(rt.alloc(), network_of(self.network), a, b)?;
+        let (clocks, ahead) = clocks_between(alloc, network_of(self.network), a, b)?;
         match self.shift {
             Shift::Auto => Ok(known_asked(clocks, ahead)),
             Shift::Unasked | Shift::Given => Ok(known_unasked(clocks, ahead)),
@@ -183,9 +176,12 @@ pub fn read_clocks<R: AllocGlobal + Eprint + Files>(
     if !recorders.are_wanted() {
         return Ok(Known::Nothing);
     }
-    let mut a = open_alone(rt, recorders, Inlet::A, progress)?;
-    let mut b = open_alone(rt, recorders, Inlet::B, progress)?;
-    Ok(recorders.told_by(rt, &mut a, &mut b)?)
+    let a = open_alone(rt, recorders, Inlet::A, progress)?;
+    let b = open_alone(rt, recorders, Inlet::B, progress);
+    let (mut b, mut a) = beside(b, a)?;
+    let known = recorders.told_by(rt.alloc(), &mut a, &mut b);
+    drop((a, b));
+    Ok(known?)
 }
 
 /// A task on the clocks that are known. Where the recordings are more than 146 years apart, it stays as it is.
@@ -279,13 +275,13 @@ fn open_front<'a, R: AllocGlobal + Eprint + Files>(
 }
 
 /// What is known of the clocks of two captures that are open. Where one of them ends early nothing is, which is told.
-fn read_opened<'a, R: AllocGlobal + Eprint + Files>(
-    rt: &'a R,
+fn read_opened<R: AllocGlobal + Eprint, C: BufRead + Drop>(
+    rt: &R,
     recorders: &Recorders<'_>,
-    a: &mut Captures<Opened<'a, R>>,
-    b: &mut Captures<Opened<'a, R>>,
+    a: &mut Captures<C>,
+    b: &mut Captures<C>,
 ) -> Result<Known, Unknown> {
-    match recorders.told_by(rt, a, b) {
+    match recorders.told_by(rt.alloc(), a, b) {
         Ok(known) => Ok(known),
         Err(ScriptFault::File(inlet, _)) => {
             tell_untold(rt, recorders.shift, Untold::Broken(inlet))?;
@@ -308,13 +304,16 @@ fn read_open_clocks<R: AllocGlobal + Eprint + Files>(
         tell_untold(rt, recorders.shift, Untold::Once(path))?;
         return Ok(Known::Nothing);
     }
-    let Some(mut a) = open_front(rt, recorders, Inlet::A, progress)? else {
+    let Some(a) = open_front(rt, recorders, Inlet::A, progress)? else {
         return Ok(Known::Nothing);
     };
-    let Some(mut b) = open_front(rt, recorders, Inlet::B, progress)? else {
+    let (b, a) = beside(open_front(rt, recorders, Inlet::B, progress), a)?;
+    let Some((mut b, mut a)) = both(b, a) else {
         return Ok(Known::Nothing);
     };
-    read_opened(rt, recorders, &mut a, &mut b)
+    let known = read_opened(rt, recorders, &mut a, &mut b);
+    drop((a, b));
+    known
 }
 
 /// What is known of the clocks of captures that are read again behind it. Where two offsets fit, or nothing is known though somebody asked,

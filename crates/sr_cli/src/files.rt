@@ -1,20 +1,43 @@
 //! The files of captures: opened as one, and what is wrong with one of them.
 
+use crate::audit::Ended;
 use crate::bounds::{HEAD_LEN, Kind, compression_of, kind_of};
 use crate::joined::{Joined, Part, flaw_of};
+use crate::owned::beside;
 use crate::progress::{Metered, Progress};
 use sr_advice::{FileFault, FileReason, NoInterface, Unopened, letter_of};
 use sr_capture::{CaptureFault, Reason};
-use sr_capture_script::Inlet;
+use sr_capture_script::{Captures, Inlet, Options};
 use sr_options::Paths;
 use sr_page::digest_of;
 use sr_pcapng::Wanted;
 use std::fs::File;
-use std::io::{BufReader, Read};
+use std::io::{self, BufRead, BufReader, Read};
 use std::rt::Files;
 
-/// The files of a capture, read ahead as one, which tell how far they were read.
-pub type Opened<'a, R> = BufReader<Metered<'a, Joined<<R as Files>::File>, R>>;
+/// The files of a capture, read ahead as one, which tell how far they were read. It is a type of its own, so that proofs about captures
+/// don't go through all that it is made of.
+#[derive(Drop)]
+pub struct Opened<'a, R: Files> {
+    reader: BufReader<Metered<'a, Joined<R::File>, R>>,
+}
+
+impl<R: Eprint + Files> Read for Opened<'_, R> {
+    fn read(&mut self, buf: &mut [u8]) -> io::Result<usize> {
+        self.reader.read(buf)
+    }
+}
+
+impl<R: Eprint + Files> BufRead for Opened<'_, R> {
+    fn fill_buf(&mut self) -> io::Result<&[u8]> {
+        self.reader.fill_buf()?;
+        Ok(self.reader.buffer())
+    }
+
+    fn consume(&mut self, amount: usize) {
+        self.reader.consume(amount);
+    }
+}
 
 /// Opens a file. The error is the word for the fault, which standard error tells.
 fn open_path<R: Eprint + Files>(
@@ -173,25 +196,58 @@ pub fn open_file<'a, R: AllocGlobal + Eprint + Files>(
     let joined = open_all(rt, letter, paths, wanted)?;
     let metered = Metered::new(rt, joined, letter, total_of(rt, paths), progress);
     match BufReader::new(rt.alloc(), metered) {
-        Ok(reader) => Ok(Some(reader)),
+        Ok(reader) => Ok(Some(Opened { reader })),
         Err(_) => Err(tell_no_memory(rt, letter)),
     }
 }
 
-/// The front of a file, as far as it can be read.
-fn front_of<R: Files>(rt: &R, path: &str) -> ([u8; HEAD_LEN], usize) {
-    let mut front = [0; HEAD_LEN];
+/// Opens the captures of A and B, each where it has files. Standard error is told where one of the files can't be opened.
+pub fn open_captures<'a, R: AllocGlobal + Eprint + Files>(
+    rt: &'a R,
+    a: Option<Paths<'_>>,
+    b: Option<Paths<'_>>,
+    options: &Options,
+    progress: Progress,
+) -> Result<Captures<Opened<'a, R>>, Ended> {
+    let interfaces = options.interfaces;
+    let Ok(a) = open_file(rt, Inlet::A, a, interfaces.a, progress) else {
+        return Err(Ended::Unopened);
+    };
+    let b = open_file(rt, Inlet::B, b, interfaces.b, progress);
+    let Ok((b, a)) = beside(b, a) else {
+        return Err(Ended::Unopened);
+    };
+    match Captures::open(rt.alloc(), a, b, None, options) {
+        Ok(captures) => Ok(captures),
+        Err(fault) => Err(Ended::By(fault)),
+    }
+}
+
+/// The front of a file, as far as it can be read, and zeros behind it.
+fn front_of<R: Files>(rt: &R, path: &str) -> [u8; HEAD_LEN] {
     if let Ok(file) = File::open(rt, path) {
         let mut part = Part::new(file);
         if part.look().is_ok() {
-            let len = part.head().len();
-            for (place, octet) in front.iter_mut().zip(part.head().iter()) {
-                *place = *octet;
-            }
-            return (front, len);
+            return part.front();
         }
     }
-    (front, 0)
+    [0; HEAD_LEN]
+}
+
+/// How many octets stand before the packets of the files behind a first one.
+fn again_len_behind<R: Files>(rt: &R, first: &str) -> u64 {
+    let front = front_of(rt, first);
+    kind_of(front.as_slice()).again_len() as u64
+}
+
+/// How many octets a file has behind those that are skipped. None: that can't be told.
+fn len_behind<R: Files>(rt: &R, path: &str, skipped: u64) -> Option<u64> {
+    let metadata = std::fs::metadata(rt, path).ok()?;
+    if metadata.is_file() {
+        Some(metadata.len().saturating_sub(skipped))
+    } else {
+        None
+    }
 }
 
 /// The files of the captures, by their inlets.
@@ -225,19 +281,12 @@ struct Spot<'a> {
 
 /// Where an octet of a capture of several files is. None: it is in one of which can't be told how long it is.
 fn spot_of<'a, R: Files>(rt: &R, paths: Paths<'a>, at: u64) -> Option<Spot<'a>> {
-    let again = match kind_of(front_of(rt, paths.path(0)?).0.as_slice()) {
-        Kind::Other => 0,
-        kind => kind.again_len() as u64,
-    };
+    let again = again_len_behind(rt, paths.path(0)?);
     let mut left = at;
     for place in 0..paths.count {
         let path = paths.path(place)?;
         let skipped = if place == 0 { 0 } else { again };
-        let metadata = std::fs::metadata(rt, path).ok()?;
-        if !metadata.is_file() {
-            return None;
-        }
-        let len = metadata.len().saturating_sub(skipped);
+        let len = len_behind(rt, path, skipped)?;
         if left < len || place.saturating_add(1) == paths.count {
             return Some(Spot {
                 path,
@@ -258,7 +307,7 @@ fn compression_in<R: Files>(
     if fault.reason != Reason::Unknown || fault.at > 0 {
         return None;
     }
-    let (front, _) = front_of(rt, path?);
+    let front = front_of(rt, path?);
     compression_of(front.as_slice())
 }
 

@@ -49,6 +49,11 @@ impl<F: Read> Part<F> {
         self.head.get(..self.len).unwrap_or(&[])
     }
 
+    /// What was read ahead, and zeros behind it.
+    pub fn front(&self) -> [u8; HEAD_LEN] {
+        self.head
+    }
+
     /// Reads on.
     fn read_on(&mut self, buf: &mut [u8]) -> io::Result<usize>
         ensures { IfOk result (λ count. count ≤ length buf.new) }

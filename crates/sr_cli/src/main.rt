@@ -11,6 +11,7 @@ mod joined;
 mod meanings;
 mod merge;
 mod order;
+mod owned;
 mod pipes;
 mod progress;
 mod running;

@@ -1,11 +1,13 @@
 //! The subcommand `merge`: opens the captures and the file that is written, and says what was merged.
 
+use crate::audit::Ended;
 use crate::clocks::{
     Known, Unknown, Untold, recorders_of_merge, seek_clocks, tell_ahead, tell_untold,
 };
-use crate::files::{Opened, Sides, open_file};
+use crate::files::{Opened, Sides, open_captures};
 use crate::meanings::plan_of;
 use crate::order::check_order;
+use crate::owned::beside;
 use crate::pipes::Pipe;
 use crate::progress::Progress;
 use crate::script::{tell_ended, tell_other};
@@ -15,7 +17,7 @@ use sr_capture_script::{Captures, Inlet, ScriptFault};
 use sr_options::{LineFormat, MergeTask, Paths, Scope};
 use sr_slots::Keys;
 use std::fs::File;
-use std::io::{self, BufWriter, Write};
+use std::io::{self, BufRead, BufWriter, Write};
 use std::os::unix::fs::MetadataExt;
 use std::random::RandomSource;
 use std::rt::Files;
@@ -78,16 +80,10 @@ fn open<'a, R: AllocGlobal + Eprint + Files>(
     task: &MergeTask<'_>,
     progress: Progress,
 ) -> Result<Captures<Opened<'a, R>>, ()> {
-    let interfaces = task.options.interfaces;
-    let Ok(a) = open_file(rt, Inlet::A, task.a, interfaces.a, progress) else {
-        return Err(());
-    };
-    let Ok(b) = open_file(rt, Inlet::B, task.b, interfaces.b, progress) else {
-        return Err(());
-    };
-    match Captures::open(rt.alloc(), a, b, None, &task.options) {
+    match open_captures(rt, task.a, task.b, &task.options, progress) {
         Ok(captures) => Ok(captures),
-        Err(fault) => {
+        Err(Ended::Unopened) => Err(()),
+        Err(Ended::By(fault)) => {
             tell_ended(rt, &sides_of(task), fault, false);
             Err(())
         }
@@ -161,16 +157,39 @@ fn tell_words<R: Eprint>(rt: &R, scope: Scope, counts: &Counts) {
     tell_odd(rt, counts);
 }
 
+/// Says how a merge ended: what was merged, or what ended it early.
+fn tell_outcome<R: Eprint + Files>(
+    rt: &R,
+    task: &MergeTask<'_>,
+    counts: &Counts,
+    outcome: Result<(), ScriptFault>,
+    is_closed: bool,
+) -> Result<(), ()> {
+    match outcome {
+        Ok(()) => {
+            tell_counts(rt, task, counts);
+            Ok(())
+        }
+        Err(fault) => {
+            if let ScriptFault::File(_, _) = fault {
+                tell_counts(rt, task, counts);
+            }
+            tell_ended(rt, &sides_of(task), fault, is_closed);
+            Err(())
+        }
+    }
+}
+
 /// Merges the captures into a writer.
-fn merge_into<'a, R: AllocGlobal + Eprint + Files, W: Write + Drop>(
-    rt: &'a R,
+fn merge_into<R: AllocGlobal + Eprint + Files, C: BufRead + Drop, W: Write + Drop>(
+    rt: &R,
     task: &MergeTask<'_>,
     keys: Keys,
-    mut captures: Captures<Opened<'a, R>>,
+    captures: Captures<C>,
     out: W,
 ) -> Result<(), ()> {
-    let Ok(mut writer) = BufWriter::with_capacity(rt.alloc(), WRITTEN_AT_ONCE, Pipe::new(out))
-    else {
+    let writer = BufWriter::with_capacity(rt.alloc(), WRITTEN_AT_ONCE, Pipe::new(out));
+    let Ok((mut writer, mut captures)) = beside(writer, captures) else {
         tell_other(rt, ScriptFault::NoMemory, false);
         return Err(());
     };
@@ -189,19 +208,9 @@ fn merge_into<'a, R: AllocGlobal + Eprint + Files, W: Write + Drop>(
         Ok(()) if flushed.is_err() => Err(ScriptFault::Write),
         other => other,
     };
-    match outcome {
-        Ok(()) => {
-            tell_counts(rt, task, &counts);
-            Ok(())
-        }
-        Err(fault) => {
-            if let ScriptFault::File(_, _) = fault {
-                tell_counts(rt, task, &counts);
-            }
-            tell_ended(rt, &sides_of(task), fault, is_closed);
-            Err(())
-        }
-    }
+    let told = tell_outcome(rt, task, &counts, outcome, is_closed);
+    drop((writer, captures));
+    told
 }
 
 /// The task by the clocks that are known, of which standard error is told.
@@ -249,8 +258,8 @@ pub fn run_merge<R: AllocGlobal + Print + Eprint + Files + RandomSource>(
     if task.out == "-" {
         return merge_into(rt, task, keys, captures, io::writer(rt));
     }
-    match File::create(rt, task.out) {
-        Ok(file) => merge_into(rt, task, keys, captures, file),
+    match beside(File::create(rt, task.out), captures) {
+        Ok((file, captures)) => merge_into(rt, task, keys, captures, file),
         Err(_) => {
             let out = task.out;
             let _ = eprintln!(rt; "fault write");

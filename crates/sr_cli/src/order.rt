@@ -1,12 +1,13 @@
 //! Whether the files of a capture are named in the order of their times.
 
-use crate::files::{Opened, open_file};
+use crate::files::open_captures;
 use crate::progress::Progress;
 use sr_advice::letter_of;
 use sr_capture_script::{Captures, Inlet, Options};
 use sr_options::Paths;
 use sr_pcapng::Wanted;
 use std::fs::File;
+use std::io::BufRead;
 use std::rt::Files;
 
 /// When a file begins and ends: the moments of its first packet and of its latest, in nanoseconds.
@@ -17,7 +18,7 @@ struct Range {
 }
 
 /// When a capture begins and ends, as far as it can be read.
-fn range_in<R: Eprint + Files>(captures: &mut Captures<Opened<'_, R>>) -> Option<Range> {
+fn range_in<R: BufRead + Drop>(captures: &mut Captures<R>) -> Option<Range> {
     let first = captures.front()?.moment;
     let mut last = first;
     for _ in 0..u64::MAX {
@@ -39,15 +40,16 @@ fn range_of<R: AllocGlobal + Eprint + Files>(
     wanted: Wanted,
     options: &Options,
 ) -> Option<Range> {
-    let file = open_file(rt, Inlet::A, Some(paths), wanted, Progress::Silent).ok()?;
     let mut interfaces = options.interfaces;
     interfaces.a = wanted;
     let options = Options {
         interfaces,
         ..*options
     };
-    let mut captures = Captures::open(rt.alloc(), file, None, None, &options).ok()?;
-    range_in(&mut captures)
+    let mut captures = open_captures(rt, Some(paths), None, &options, Progress::Silent).ok()?;
+    let range = range_in(&mut captures);
+    drop(captures);
+    range
 }
 
 /// Says that a file begins before the end of that before it. The error is that it begins before its beginning, so that they are named in

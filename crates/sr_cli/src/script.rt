@@ -5,6 +5,7 @@ use crate::clocks::{
 };
 use crate::files::{Opened, Sides, open_file, shown_of, tell_file};
 use crate::order::check_order;
+use crate::owned::beside;
 use crate::pipes::{Pipe, Surveyed};
 use crate::progress::Progress;
 use crate::spelled::Spelled;
@@ -13,7 +14,7 @@ use sr_capture_script::{Inlet, ScriptFault, script};
 use sr_options::{LineFormat, Paths, ScriptTask};
 use sr_pcapng::Wanted;
 use std::alloc::AllocError;
-use std::io::{self, BufWriter, Write};
+use std::io::{self, BufWriter, Printer, Write};
 use std::rt::Files;
 
 /// The most lines that `replay` takes.
@@ -157,34 +158,35 @@ fn tell_unknown<R: Print>(rt: &R, format: LineFormat, unknown: Unknown) {
     }
 }
 
-/// Writes the script to standard output. A fault is told on standard error.
-pub fn run_script<R: AllocGlobal + Print + Eprint + Files>(
-    rt: &R,
+/// The files of the captures of A, B and C, where there are such.
+type Three<F> = (Option<F>, Option<F>, Option<F>);
+
+/// Opens the files of the captures for a script. Where that fails, the script is a comment that tells of it.
+fn open_three<'a, R: AllocGlobal + Print + Eprint + Files>(
+    rt: &'a R,
     task: &ScriptTask<'_>,
     progress: Progress,
-) -> Result<(), ()> {
-    if check_orders(rt, task).is_err() {
-        tell_begun(rt, task.format, "order");
-        return Err(());
-    }
+) -> Result<Three<Opened<'a, R>>, ()> {
     let interfaces = task.options.interfaces;
     let format = task.format;
     let a = open_for_script(rt, Inlet::A, task.a, interfaces.a, format, progress)?;
-    let b = open_for_script(rt, Inlet::B, task.b, interfaces.b, format, progress)?;
-    let c = open_for_script(rt, Inlet::C, task.c, interfaces.c, format, progress)?;
-    let task = &match on_known_clocks(rt, task, progress) {
-        Ok(task) => task,
-        Err(unknown) => {
-            tell_unknown(rt, format, unknown);
-            return Err(());
-        }
-    };
-    let Ok(buffered) = BufWriter::new(rt.alloc(), Pipe::new(io::writer(rt))) else {
-        let _ = eprintln!(rt; "fault memory");
-        return Err(());
-    };
-    let mut writer = Surveyed::new(Spelled::new(rt.alloc(), format, buffered));
-    let outcome = script(rt.alloc(), a, b, c, &task.options, &mut writer);
+    let b = open_for_script(rt, Inlet::B, task.b, interfaces.b, format, progress);
+    let (b, a) = beside(b, a)?;
+    let c = open_for_script(rt, Inlet::C, task.c, interfaces.c, format, progress);
+    let (c, (a, b)) = beside(c, (a, b))?;
+    Ok((a, b, c))
+}
+
+/// What a script is written to.
+type Written<'a, R> = Surveyed<Spelled<BufWriter<Pipe<Printer<'a, R>>>>>;
+
+/// Says how the writing of a script ended: what looks wrong in one that is whole, or what ended it early.
+fn tell_outcome<R: AllocGlobal + Print + Eprint + Files>(
+    rt: &R,
+    task: &ScriptTask<'_>,
+    outcome: Result<(), ScriptFault>,
+    writer: &mut Written<'_, R>,
+) -> Result<(), ()> {
     let flushed = writer.flush();
     let is_closed = writer.get_ref().get_ref().get_ref().is_closed();
     if !is_closed {
@@ -203,6 +205,44 @@ pub fn run_script<R: AllocGlobal + Print + Eprint + Files>(
         Err(AllocError) => ScriptFault::NoMemory,
         Ok(()) => fault,
     };
-    tell_fault(rt, &sides_of(task), fault, is_closed, &mut writer);
+    tell_fault(rt, &sides_of(task), fault, is_closed, writer);
     Err(())
+}
+
+/// Writes the script of files that are open to standard output.
+fn write_script<'a, R: AllocGlobal + Print + Eprint + Files>(
+    rt: &'a R,
+    task: &ScriptTask<'_>,
+    files: Three<Opened<'a, R>>,
+) -> Result<(), ()> {
+    let buffered = BufWriter::new(rt.alloc(), Pipe::new(io::writer(rt)));
+    let Ok((buffered, (a, b, c))) = beside(buffered, files) else {
+        let _ = eprintln!(rt; "fault memory");
+        return Err(());
+    };
+    let mut writer = Surveyed::new(Spelled::new(rt.alloc(), task.format, buffered));
+    let outcome = script(rt.alloc(), a, b, c, &task.options, &mut writer);
+    let told = tell_outcome(rt, task, outcome, &mut writer);
+    drop(writer);
+    told
+}
+
+/// Writes the script to standard output. A fault is told on standard error.
+pub fn run_script<R: AllocGlobal + Print + Eprint + Files>(
+    rt: &R,
+    task: &ScriptTask<'_>,
+    progress: Progress,
+) -> Result<(), ()> {
+    if check_orders(rt, task).is_err() {
+        tell_begun(rt, task.format, "order");
+        return Err(());
+    }
+    let files = open_three(rt, task, progress)?;
+    match beside(on_known_clocks(rt, task, progress), files) {
+        Ok((own, files)) => write_script(rt, &own, files),
+        Err(unknown) => {
+            tell_unknown(rt, task.format, unknown);
+            Err(())
+        }
+    }
 }

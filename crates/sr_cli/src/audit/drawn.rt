@@ -3,6 +3,7 @@
 use crate::audit::Ended;
 use crate::audit::passes::{Times, open, read_flows};
 use crate::audit::subjects::subject_at;
+use crate::owned::beside;
 use crate::progress::Progress;
 use sr_audit::LISTED_AT_ONCE;
 use sr_audit_charts::{Kept, MAX_CHARTS, SourceLine, lines_in, print_picture, rank, times_of};
@@ -23,8 +24,8 @@ fn trace_from<R: AllocGlobal + Eprint + Files>(
     kept: &mut Kept,
 ) -> Result<usize, Ended> {
     let flows = read_flows(rt, task, keys, times)?;
-    let mut captures = open(rt, task, Progress::Silent)?;
-    Ok(tell_fates(
+    let (mut captures, flows) = beside(open(rt, task, Progress::Silent), flows)?;
+    let sources = tell_fates(
         rt.alloc(),
         keys,
         &mut captures,
@@ -34,7 +35,9 @@ fn trace_from<R: AllocGlobal + Eprint + Files>(
         flows,
         first,
         kept,
-    )?)
+    );
+    drop(captures);
+    Ok(sources?)
 }
 
 /// Has what is kept take the frames of all sources: those of so many at a time as memory allows.
@@ -55,13 +58,13 @@ pub fn trace<R: AllocGlobal + Eprint + Files>(
 
 /// What is told of the sources, the worst first. The figures are let go, so that what is drawn finds room.
 pub fn ranked<R: AllocGlobal>(rt: &R, report: Report) -> Result<Vec<SourceLine>, Ended> {
-    let lines = match lines_in(rt.alloc(), &report) {
-        Ok(lines) => lines,
-        Err(_) => return Err(Ended::By(ScriptFault::NoMemory)),
+    let lines = lines_in(rt.alloc(), &report);
+    drop(report);
+    let Ok(mut lines) = lines else {
+        return Err(Ended::By(ScriptFault::NoMemory));
     };
-    let mut lines = lines;
-    match rank(&mut lines) {
-        Ok(()) => Ok(lines),
+    match beside(rank(&mut lines), lines) {
+        Ok(((), lines)) => Ok(lines),
         Err(_) => Err(Ended::By(ScriptFault::NoMemory)),
     }
 }
@@ -79,7 +82,8 @@ pub fn keep<R: AllocGlobal + Eprint + Files>(
         Ok(kept) => kept,
         Err(_) => return Err(Ended::By(ScriptFault::NoMemory)),
     };
-    trace(rt, task, keys, times, &mut kept)?;
+    let traced = trace(rt, task, keys, times, &mut kept);
+    let ((), kept) = beside(traced, kept)?;
     Ok(kept)
 }
 
@@ -93,7 +97,9 @@ pub fn draw<R: AllocGlobal + Eprint + Files, W: Write>(
     writer: &mut W,
 ) -> Result<(), Ended> {
     let lines = ranked(rt, report)?;
-    let kept = keep(rt, task, keys, times, lines.as_slice(), MAX_CHARTS)?;
-    print_picture(writer, lines.as_slice(), &kept)?;
-    Ok(())
+    let kept = keep(rt, task, keys, times, lines.as_slice(), MAX_CHARTS);
+    let (kept, lines) = beside(kept, lines)?;
+    let printed = print_picture(writer, lines.as_slice(), &kept);
+    drop((lines, kept));
+    Ok(printed?)
 }

@@ -3,9 +3,10 @@
 use crate::audit::Ended;
 use crate::audit::passes::{judged_spans, read_gathered, read_ruled};
 use crate::meanings::network_of;
+use crate::owned::beside;
 use sr_audit::{Audit, Spans};
 use sr_capture_audit::{
-    Flows, Gathered, Network, RedBoxes, Report, Rule, Sight, Subject, flows_in, judges_all,
+    Flows, Gathered, Network, RedBoxes, Report, Rule, Ruling, Sight, Subject, flows_in, judges_all,
     sight_of,
 };
 use sr_options::AuditTask;
@@ -50,6 +51,28 @@ fn judged_by_counters(
     }
 }
 
+/// A report in which no frame tells of losses, and the counters do where they were asked for.
+fn judged_by_counters_alone<R: AllocGlobal>(
+    rt: &R,
+    task: &AuditTask<'_>,
+    keys: Keys,
+    counters: Option<Audit>,
+    report: Report,
+) -> Report {
+    let none = Flows::none(rt.alloc(), keys);
+    let report = judged_by_counters(task, &none, counters, report);
+    drop(none);
+    report
+}
+
+/// The figures under a rule, where they were asked for.
+fn audit_in(ruling: Option<Ruling>) -> Option<Audit> {
+    match ruling {
+        Some(ruling) => Some(ruling.audit),
+        None => None,
+    }
+}
+
 /// Which flows both captures see, and whether all frames tell of losses.
 #[derive(Drop)]
 struct Judges {
@@ -60,8 +83,10 @@ struct Judges {
 impl Judges {
     /// What an audit of frames by flow tells, which is let go.
     fn by<R: AllocGlobal>(rt: &R, keys: Keys, by_flow: Audit) -> Result<Judges, Ended> {
-        let flows = flows_in(rt.alloc(), keys, &by_flow)?;
+        let flows = flows_in(rt.alloc(), keys, &by_flow);
+        let (flows, by_flow) = beside(flows, by_flow)?;
         let are_all = judges_all(&flows, &by_flow);
+        drop(by_flow);
         Ok(Judges { flows, are_all })
     }
 
@@ -93,9 +118,9 @@ fn read_at_once<R: AllocGlobal + Eprint + Files>(
 ) -> Result<Telling, Ended> {
     let Gathered {
         report,
+        redboxes,
         flows,
         counters,
-        ..
     } = read_gathered(
         rt,
         task,
@@ -105,18 +130,44 @@ fn read_at_once<R: AllocGlobal + Eprint + Files>(
         Some(Rule::ByFlow),
         by_counter,
     )?;
-    let judges = match flows {
-        Some(by_flow) => Judges::by(rt, keys, by_flow.audit)?,
-        None => Judges::none(rt, keys),
+    drop(redboxes);
+    let judges = match audit_in(flows) {
+        Some(by_flow) => Judges::by(rt, keys, by_flow),
+        None => Ok(Judges::none(rt, keys)),
     };
+    let (judges, (report, counters)) = beside(judges, (report, counters))?;
     Ok(Telling {
         report,
         judges,
-        counters: match counters {
-            Some(counters) => Some(counters.audit),
-            None => None,
-        },
+        counters: audit_in(counters),
     })
+}
+
+/// The report of what was gathered.
+fn report_in(gathered: Gathered) -> Report {
+    let Gathered {
+        report,
+        redboxes,
+        flows,
+        counters,
+    } = gathered;
+    drop((redboxes, flows, counters));
+    report
+}
+
+/// The figures under a rule, by a pass of their own, where they are asked for.
+fn read_counters<R: AllocGlobal + Eprint + Files>(
+    rt: &R,
+    task: &AuditTask<'_>,
+    subject: Subject,
+    keys: Keys,
+    judged: Spans,
+    by_counter: Option<Rule>,
+) -> Result<Option<Audit>, Ended> {
+    match by_counter {
+        Some(rule) => Ok(Some(read_ruled(rt, task, subject, keys, judged, rule)?)),
+        None => Ok(None),
+    }
 }
 
 /// What tells of the losses, by a pass for each audit, so that as few as can be are held at once: of many sources.
@@ -128,15 +179,17 @@ fn read_in_turn<R: AllocGlobal + Eprint + Files>(
     judged: Spans,
     by_counter: Option<Rule>,
 ) -> Result<Telling, Ended> {
-    let by_flow = read_ruled(rt, task, subject, keys, judged, Rule::ByFlow)?;
-    let judges = Judges::by(rt, keys, by_flow)?;
-    let gathered = read_gathered(rt, task, subject, keys, judged, None, None)?;
-    let counters = match by_counter {
-        Some(rule) => Some(read_ruled(rt, task, subject, keys, judged, rule)?),
-        None => None,
-    };
+    let by_flow = read_ruled(rt, task, subject, keys, judged, Rule::ByFlow);
+    let (by_flow, by_counter) = beside(by_flow, by_counter)?;
+    let judges = Judges::by(rt, keys, by_flow);
+    let (judges, by_counter) = beside(judges, by_counter)?;
+    let gathered = read_gathered(rt, task, subject, keys, judged, None, None);
+    let (gathered, (judges, by_counter)) = beside(gathered, (judges, by_counter))?;
+    let report = report_in(gathered);
+    let counters = read_counters(rt, task, subject, keys, judged, by_counter);
+    let (counters, (report, judges)) = beside(counters, (report, judges))?;
     Ok(Telling {
-        report: gathered.report,
+        report,
         judges,
         counters,
     })
@@ -156,15 +209,18 @@ fn judged_by_flows<R: AllocGlobal + Eprint + Files>(
         judges,
         counters,
     } = telling;
+    let Judges { flows, are_all } = judges;
     if !report.has_lost() {
-        let none = Flows::none(rt.alloc(), keys);
-        return Ok(judged_by_counters(task, &none, counters, report));
+        drop(flows);
+        return Ok(judged_by_counters_alone(rt, task, keys, counters, report));
     }
-    let report = judged_by_counters(task, &judges.flows, counters, report);
-    if judges.are_all {
+    let report = judged_by_counters(task, &flows, counters, report);
+    if are_all {
+        drop(flows);
         return Ok(report);
     }
-    let ruled = read_ruled(rt, task, subject, keys, judged, Rule::Judged(judges.flows))?;
+    let ruled = read_ruled(rt, task, subject, keys, judged, Rule::Judged(flows));
+    let (ruled, report) = beside(ruled, report)?;
     Ok(report.with_judged(ruled))
 }
 
@@ -181,10 +237,27 @@ struct Losses {
 
 /// What a report tells of that, which is let go, so that others find room.
 fn losses_of(report: Report) -> Losses {
-    Losses {
+    let losses = Losses {
         edge_width: report.edge_width(),
         have_missing: report.has_missing(),
         are_few: report.audit.len() <= FEW_SOURCES,
+    };
+    drop(report);
+    losses
+}
+
+/// The rule of the counters, where numbers are missing.
+fn counting_where(
+    task: &AuditTask<'_>,
+    have_missing: bool,
+    judged: Spans,
+    redboxes: RedBoxes,
+) -> Option<Rule> {
+    if have_missing {
+        Some(counting_of(task, judged, redboxes))
+    } else {
+        drop(redboxes);
+        None
     }
 }
 
@@ -201,19 +274,17 @@ pub fn read_losses<R: AllocGlobal + Eprint + Files>(
     let Gathered {
         report,
         redboxes,
-        ..
+        flows,
+        counters,
     } = first;
+    drop((flows, counters));
     let Losses {
         edge_width,
         have_missing,
         are_few,
     } = losses_of(report);
     let judged = judged_spans(task, edge_width, audited);
-    let by_counter = if have_missing {
-        Some(counting_of(task, judged, redboxes))
-    } else {
-        None
-    };
+    let by_counter = counting_where(task, have_missing, judged, redboxes);
     let telling = if are_few {
         read_at_once(rt, task, subject, keys, judged, by_counter)?
     } else {
@@ -235,13 +306,12 @@ pub fn read_missing<R: AllocGlobal + Eprint + Files>(
     let Gathered {
         report,
         redboxes,
-        ..
+        flows,
+        counters,
     } = first;
-    if !report.has_missing() {
-        return Ok(report);
-    }
-    let rule = counting_of(task, audited, redboxes);
-    let counters = read_ruled(rt, task, subject, keys, audited, rule)?;
-    let none = Flows::none(rt.alloc(), keys);
-    Ok(judged_by_counters(task, &none, Some(counters), report))
+    drop((flows, counters));
+    let rule = counting_where(task, report.has_missing(), audited, redboxes);
+    let counters = read_counters(rt, task, subject, keys, audited, rule);
+    let (counters, report) = beside(counters, report)?;
+    Ok(judged_by_counters_alone(rt, task, keys, counters, report))
 }

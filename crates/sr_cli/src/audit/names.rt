@@ -1,12 +1,12 @@
 //! The file of names of nodes: an address and a name in each line.
 
 use crate::audit::Ended;
+use crate::owned::beside;
 use sr_capture_script::ScriptFault;
 use sr_frame::Mac;
 use sr_markup::Escaped;
 use sr_options::mac_of;
 use sr_page::NodeName;
-use std::alloc::Global;
 use std::fs::File;
 use std::io;
 use std::rt::Files;
@@ -50,30 +50,50 @@ fn add_line<R: AllocGlobal + Eprint>(
     }
 }
 
-/// The names of nodes that a file has, if one is named. Standard error is told what is wrong with it.
-pub fn read_names<R: AllocGlobal + Eprint + Files>(
-    rt: &R,
-    path: Option<&str>,
-) -> Result<Vec<NodeName>, Ended> {
-    let alloc: Global = rt.alloc();
-    let mut names = Vec::new(alloc);
-    let Some(path) = path else {
-        return Ok(names);
-    };
+/// The text of a file of names. Standard error is told where it can't be read.
+fn text_at<R: AllocGlobal + Eprint + Files>(rt: &R, path: &str) -> Result<String, Ended> {
     let Ok(file) = File::open(rt, path) else {
         let _ = eprintln!(rt; "fault names open");
         let _ = eprintln!(rt; "{path}: the file can not be opened");
         return Err(Ended::Unopened);
     };
-    let Ok(text) = io::read_to_string(alloc, file) else {
-        let _ = eprintln!(rt; "fault names read");
-        let _ = eprintln!(rt; "{path}: the file can not be read as text");
-        return Err(Ended::Unopened);
-    };
+    match io::read_to_string(rt.alloc(), file) {
+        Ok(text) => Ok(text),
+        Err(_) => {
+            let _ = eprintln!(rt; "fault names read");
+            let _ = eprintln!(rt; "{path}: the file can not be read as text");
+            Err(Ended::Unopened)
+        }
+    }
+}
+
+/// Adds the names of the lines of a text. The error is what ended the audit.
+fn add_lines<R: AllocGlobal + Eprint>(
+    rt: &R,
+    path: &str,
+    text: &str,
+    names: &mut Vec<NodeName>,
+) -> Result<(), Ended> {
     let mut number: u64 = 0;
     for line in text.lines() {
         number = number.saturating_add(1);
-        add_line(rt, path, number, line, &mut names)?;
+        add_line(rt, path, number, line, names)?;
     }
+    Ok(())
+}
+
+/// The names of nodes that a file has, if one is named. Standard error is told what is wrong with it.
+pub fn read_names<R: AllocGlobal + Eprint + Files>(
+    rt: &R,
+    path: Option<&str>,
+) -> Result<Vec<NodeName>, Ended> {
+    let Some(path) = path else {
+        return Ok(Vec::new(rt.alloc()));
+    };
+    let text = text_at(rt, path)?;
+    let mut names = Vec::new(rt.alloc());
+    let added = add_lines(rt, path, &text, &mut names);
+    drop(text);
+    let ((), names) = beside(added, names)?;
     Ok(names)
 }

@@ -25,10 +25,11 @@ pub fn read_nodes<R: AllocGlobal + Eprint + Files>(
         &mut captures,
         &task.options.choice,
         subject_of(task),
-    )?;
+    );
     let dropped = Sides {
         a: captures.dropped(Inlet::A).unwrap_or(0),
         b: captures.dropped(Inlet::B).unwrap_or(0),
     };
-    Ok((sources, dropped))
+    drop(captures);
+    Ok((sources?, dropped))
 }

@@ -3,11 +3,11 @@
 use crate::audit::Ended;
 use crate::audit::drawn::{keep, ranked, trace};
 use crate::audit::names::read_names;
-use crate::audit::passes::{Times, open};
+use crate::audit::passes::{Times, read_front};
 use crate::clocks::Known;
 use crate::files::{digest_at, size_of};
 use crate::meanings::subject_of;
-use crate::progress::Progress;
+use crate::owned::beside;
 use sr_audit_charts::{Kept, MAX_CARDS, SourceLine, times_of};
 use sr_audit_page::{Given, Page, rows_of, topology_of, write_page};
 use sr_capture_audit::{Network, Report, Summary};
@@ -15,7 +15,7 @@ use sr_capture_script::ScriptFault;
 use sr_dates::Moment;
 use sr_markup::Escaped;
 use sr_options::{AuditTask, PROGRAM_VERSION, Paths};
-use sr_page::{CaptureFile, Fact, Seconds, Skew};
+use sr_page::{CaptureFile, Fact, NodeName, Seconds, Skew};
 use sr_slots::Keys;
 use sr_verdict::Verdict;
 use std::alloc::{AllocError, Global};
@@ -63,39 +63,38 @@ fn add_clocks(alloc: Global, facts: &mut Vec<Fact>, known: Known) -> Result<(), 
     }
 }
 
-/// What is known of the captures as a whole, the first packet of which came at a moment of a day.
-fn facts_of(
+/// Adds what is known of the captures as a whole, the first packet of which came at a moment of a day.
+fn add_facts(
     alloc: Global,
+    facts: &mut Vec<Fact>,
     task: &AuditTask<'_>,
     known: Known,
     times: Times,
     first: Option<Moment>,
-) -> Result<Vec<Fact>, AllocError> {
-    let mut facts = Vec::new(alloc);
+) -> Result<(), AllocError> {
     let network = network_word(subject_of(task).network);
-    add_fact(alloc, &mut facts, "Network", network)?;
+    add_fact(alloc, facts, "Network", network)?;
     if let Some(first) = first {
         let text = format!(in alloc; "{first}")?;
-        add_fact(alloc, &mut facts, "First packet", &text)?;
+        add_fact(alloc, facts, "First packet", &text)?;
     }
     let own = times_of(times.recorded);
     let length = Seconds(own.last.saturating_sub(own.first));
     let text = format!(in alloc; "{length}")?;
-    add_fact(alloc, &mut facts, "Length", &text)?;
-    add_clocks(alloc, &mut facts, known)?;
+    add_fact(alloc, facts, "Length", &text)?;
+    add_clocks(alloc, facts, known)?;
     let text = format!(in alloc; "seamless {PROGRAM_VERSION}")?;
-    add_fact(alloc, &mut facts, "Made by", &text)?;
-    Ok(facts)
+    add_fact(alloc, facts, "Made by", &text)
 }
 
-/// The files of a capture.
-fn files_of<R: AllocGlobal + Files>(
+/// Adds the files of a capture.
+fn add_files<R: AllocGlobal + Files>(
     rt: &R,
     paths: Option<Paths<'_>>,
-) -> Result<Vec<CaptureFile>, AllocError> {
-    let mut files = Vec::new(rt.alloc());
+    files: &mut Vec<CaptureFile>,
+) -> Result<(), AllocError> {
     let Some(paths) = paths else {
-        return Ok(files);
+        return Ok(());
     };
     for place in 0..paths.count {
         let Some(path) = paths.path(place) else {
@@ -111,7 +110,7 @@ fn files_of<R: AllocGlobal + Files>(
             return Err(AllocError::from(refused));
         }
     }
-    Ok(files)
+    Ok(())
 }
 
 /// A text from the command line, if there is one.
@@ -127,30 +126,51 @@ fn first_moment<R: AllocGlobal + Eprint + Files>(
     rt: &R,
     task: &AuditTask<'_>,
 ) -> Result<Option<Moment>, Ended> {
-    let captures = open(rt, task, Progress::Silent)?;
-    match captures.front() {
+    match read_front(rt, task)? {
         Some(front) => Ok(Some(Moment(front.moment.saturating_sub(task.early)))),
         None => Ok(None),
     }
 }
 
-/// What stands in the page besides the figures, but for the names of nodes.
+/// Adds what is known of the captures, and their files.
+fn add_captures<R: AllocGlobal + Files>(
+    rt: &R,
+    task: &AuditTask<'_>,
+    known: Known,
+    times: Times,
+    first: Option<Moment>,
+    given: &mut Given,
+) -> Result<(), AllocError> {
+    add_facts(rt.alloc(), &mut given.facts, task, known, times, first)?;
+    add_files(rt, task.a, &mut given.files_a)?;
+    add_files(rt, task.b, &mut given.files_b)
+}
+
+/// What stands in the page besides the figures, with these names of nodes.
 fn given_of<R: AllocGlobal + Files>(
     rt: &R,
     task: &AuditTask<'_>,
     known: Known,
     times: Times,
     first: Option<Moment>,
+    names: Vec<NodeName>,
 ) -> Result<Given, AllocError> {
     let alloc = rt.alloc();
-    Ok(Given {
-        title: Escaped::of(alloc, task.page.title.unwrap_or(TITLE))?,
-        facts: facts_of(alloc, task, known, times, first)?,
-        note: escaped_of(alloc, task.page.note)?,
-        names: Vec::new(alloc),
-        files_a: files_of(rt, task.a)?,
-        files_b: files_of(rt, task.b)?,
-    })
+    let title = Escaped::of(alloc, task.page.title.unwrap_or(TITLE));
+    let (title, names) = beside(title, names)?;
+    let note = escaped_of(alloc, task.page.note);
+    let (note, (title, names)) = beside(note, (title, names))?;
+    let mut given = Given {
+        title,
+        facts: Vec::new(alloc),
+        note,
+        names,
+        files_a: Vec::new(alloc),
+        files_b: Vec::new(alloc),
+    };
+    let added = add_captures(rt, task, known, times, first, &mut given);
+    let ((), given) = beside(added, given)?;
+    Ok(given)
 }
 
 /// What stands in the page besides the figures.
@@ -161,9 +181,9 @@ fn read_given<R: AllocGlobal + Eprint + Files>(
     times: Times,
 ) -> Result<Given, Ended> {
     let names = read_names(rt, task.page.names)?;
-    let first = first_moment(rt, task)?;
-    match given_of(rt, task, known, times, first) {
-        Ok(given) => Ok(Given { names, ..given }),
+    let (first, names) = beside(first_moment(rt, task), names)?;
+    match given_of(rt, task, known, times, first, names) {
+        Ok(given) => Ok(given),
         Err(_) => Err(Ended::By(ScriptFault::NoMemory)),
     }
 }
@@ -179,7 +199,8 @@ fn keep_all<R: AllocGlobal + Eprint + Files>(
 ) -> Result<Kept, Ended> {
     let mut kept = keep(rt, task, keys, times, lines, MAX_CARDS)?;
     kept.count_sizes();
-    trace(rt, task, keys, times, &mut kept)?;
+    let traced = trace(rt, task, keys, times, &mut kept);
+    let ((), kept) = beside(traced, kept)?;
     Ok(kept)
 }
 
@@ -196,9 +217,11 @@ pub fn print_page<R: AllocGlobal + Eprint + Files, W: Write>(
     writer: &mut W,
 ) -> Result<(), Ended> {
     let lines = ranked(rt, report)?;
-    let kept = keep_all(rt, task, keys, times, lines.as_slice())?;
-    let given = read_given(rt, task, known, times)?;
-    let Ok(rows) = rows_of(rt.alloc(), lines.as_slice()) else {
+    let kept = keep_all(rt, task, keys, times, lines.as_slice());
+    let (kept, lines) = beside(kept, lines)?;
+    let (given, (kept, lines)) = beside(read_given(rt, task, known, times), (kept, lines))?;
+    let rows = rows_of(rt.alloc(), lines.as_slice());
+    let Ok((rows, (given, kept, lines))) = beside(rows, (given, kept, lines)) else {
         return Err(Ended::By(ScriptFault::NoMemory));
     };
     let page = Page {
@@ -213,7 +236,9 @@ pub fn print_page<R: AllocGlobal + Eprint + Files, W: Write>(
         lines: lines.as_slice(),
         kept: &kept,
     };
-    match write_page(writer, &page) {
+    let written = write_page(writer, &page);
+    drop((rows, given, kept, lines));
+    match written {
         Ok(()) => Ok(()),
         Err(error) => Err(Ended::By(ScriptFault::from(error))),
     }

@@ -4,13 +4,14 @@ use crate::audit::Ended;
 use crate::audit::losses::{read_losses, read_missing};
 use crate::audit::subjects::subject_at;
 use crate::audit::ways::have_both_ways;
-use crate::files::{Opened, open_file};
+use crate::files::{Opened, open_captures};
+use crate::owned::beside;
 use crate::progress::Progress;
 use sr_audit::{Audit, Span, Spans};
 use sr_capture_audit::{
     Flows, Gathered, Report, Rule, Subject, flows_in, gathered_of, inner_spans, ruled_of, spans_of,
 };
-use sr_capture_script::{Captures, Inlet};
+use sr_capture_script::{Captures, Front};
 use sr_clocks::Line;
 use sr_options::AuditTask;
 use sr_slots::Keys;
@@ -35,17 +36,18 @@ pub fn open<'a, R: AllocGlobal + Eprint + Files>(
     task: &AuditTask<'_>,
     progress: Progress,
 ) -> Result<Captures<Opened<'a, R>>, Ended> {
-    let interfaces = task.options.interfaces;
-    let Ok(a) = open_file(rt, Inlet::A, task.a, interfaces.a, progress) else {
-        return Err(Ended::Unopened);
-    };
-    let Ok(b) = open_file(rt, Inlet::B, task.b, interfaces.b, progress) else {
-        return Err(Ended::Unopened);
-    };
-    match Captures::open(rt.alloc(), a, b, None, &task.options) {
-        Ok(captures) => Ok(captures),
-        Err(fault) => Err(Ended::By(fault)),
-    }
+    open_captures(rt, task.a, task.b, &task.options, progress)
+}
+
+/// Where and when the earliest packet came in. None: there is none.
+pub fn read_front<R: AllocGlobal + Eprint + Files>(
+    rt: &R,
+    task: &AuditTask<'_>,
+) -> Result<Option<Front>, Ended> {
+    let captures = open(rt, task, Progress::Silent)?;
+    let front = captures.front();
+    drop(captures);
+    Ok(front)
 }
 
 /// When the captures begin and end, by a pass of its own.
@@ -56,7 +58,9 @@ fn read_spans<R: AllocGlobal + Eprint + Files>(
     progress: Progress,
 ) -> Result<Spans, Ended> {
     let mut captures = open(rt, task, progress)?;
-    Ok(spans_of(&mut captures, &task.options.choice, subject)?)
+    let spans = spans_of(&mut captures, &task.options.choice, subject);
+    drop(captures);
+    Ok(spans?)
 }
 
 /// From the beginning of the earlier capture to the end of the later one.
@@ -99,8 +103,9 @@ pub fn read_gathered<R: AllocGlobal + Eprint + Files>(
     by_flow: Option<Rule>,
     by_counter: Option<Rule>,
 ) -> Result<Gathered, Ended> {
-    let mut captures = open(rt, task, Progress::Silent)?;
-    Ok(gathered_of(
+    let captures = open(rt, task, Progress::Silent);
+    let (mut captures, (by_flow, by_counter)) = beside(captures, (by_flow, by_counter))?;
+    let gathered = gathered_of(
         rt.alloc(),
         keys,
         &mut captures,
@@ -109,7 +114,9 @@ pub fn read_gathered<R: AllocGlobal + Eprint + Files>(
         spans,
         by_flow,
         by_counter,
-    )?)
+    );
+    drop(captures);
+    Ok(gathered?)
 }
 
 /// The figures of the captures under a rule, by a pass of their own.
@@ -121,8 +128,8 @@ pub fn read_ruled<R: AllocGlobal + Eprint + Files>(
     judged: Spans,
     rule: Rule,
 ) -> Result<Audit, Ended> {
-    let mut captures = open(rt, task, Progress::Silent)?;
-    Ok(ruled_of(
+    let (mut captures, rule) = beside(open(rt, task, Progress::Silent), rule)?;
+    let audit = ruled_of(
         rt.alloc(),
         keys,
         &mut captures,
@@ -130,7 +137,9 @@ pub fn read_ruled<R: AllocGlobal + Eprint + Files>(
         subject,
         judged,
         rule,
-    )?)
+    );
+    drop(captures);
+    Ok(audit?)
 }
 
 /// The flows that both captures see, for lists, by a pass of their own, where not all frames tell what was lost.
@@ -145,7 +154,9 @@ pub fn read_flows<R: AllocGlobal + Eprint + Files>(
     }
     let subject = subject_at(task, times);
     let by_flow = read_ruled(rt, task, subject, keys, times.judged, Rule::ByFlow)?;
-    Ok(Some(flows_in(rt.alloc(), keys, &by_flow)?))
+    let flows = flows_in(rt.alloc(), keys, &by_flow);
+    drop(by_flow);
+    Ok(Some(flows?))
 }
 
 /// What is known of captures before anything is written.
@@ -170,7 +181,8 @@ pub fn read_all<R: AllocGlobal + Eprint + Files>(
     let recorded = read_spans(rt, task, subject, progress)?;
     let audited = audited_spans(task, recorded);
     let first = read_gathered(rt, task, subject, keys, audited, None, None)?;
-    let are_both_ways = have_both_ways(rt, task, keys, first.report.has_repeated())?;
+    let are_both_ways = have_both_ways(rt, task, keys, first.report.has_repeated());
+    let (are_both_ways, first) = beside(are_both_ways, first)?;
     let (judged, report) = if first.report.has_lost() {
         read_losses(rt, task, subject, keys, audited, first)?
     } else {

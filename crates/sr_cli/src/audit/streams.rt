@@ -20,9 +20,12 @@ pub fn write_streams<R: AllocGlobal + Eprint + Files, W: Write>(
         None | Some(Format::Csv) => Ok(()),
         Some(format) => {
             let mut captures = open(rt, task, Progress::Silent)?;
-            let streams = streams_of(rt.alloc(), &mut captures, &task.options.choice)?;
-            print_streams(writer, format, &streams)?;
-            Ok(())
+            let streams = streams_of(rt.alloc(), &mut captures, &task.options.choice);
+            drop(captures);
+            let streams = streams?;
+            let printed = print_streams(writer, format, &streams);
+            drop(streams);
+            Ok(printed?)
         }
     }
 }

@@ -1,10 +1,9 @@
 //! What is audited, at which times.
 
 use crate::audit::Ended;
-use crate::audit::passes::{Times, open};
+use crate::audit::passes::{Times, read_front};
 use crate::clocks::Known;
 use crate::meanings::subject_of;
-use crate::progress::Progress;
 use sr_capture_audit::Subject;
 use sr_capture_script::start_of;
 use sr_options::AuditTask;
@@ -20,8 +19,7 @@ pub fn subject_on<R: AllocGlobal + Eprint + Files>(
     let Known::Ahead(line, ahead, _) = known else {
         return Ok(subject);
     };
-    let captures = open(rt, task, Progress::Silent)?;
-    let start = start_of(captures.front());
+    let start = start_of(read_front(rt, task)?);
     Ok(Subject {
         clock: line.rest(ahead, task.options.delays.b, start),
         ..subject

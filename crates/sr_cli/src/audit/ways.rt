@@ -48,8 +48,12 @@ fn has_both<R: AllocGlobal + Eprint + Files>(
         &choice,
         subject,
         Spans::NONE,
-    )?;
-    Ok(report.summary().counts.have_both_ways())
+    );
+    drop(captures);
+    let report = report?;
+    let counts = report.summary().counts;
+    drop(report);
+    Ok(counts.have_both_ways())
 }
 
 /// Whether both captures of a ring have both ways, each frame going by twice: where copies of sources came before, passes of their own tell.

@@ -8,6 +8,7 @@ use crate::audit::streams::write_streams;
 use crate::audit::subjects::subject_at;
 use crate::clocks::Known;
 use crate::meanings::{lines_of, lists_of};
+use crate::owned::beside;
 use crate::progress::Progress;
 use sr_audit::{LISTED_AT_ONCE, MAX_SOURCES};
 use sr_capture_audit::{Format, Report, Summary, print_clocks, print_lists};
@@ -31,8 +32,8 @@ fn print_lists_from<R: AllocGlobal + Eprint + Files, W: Write>(
     writer: &mut W,
 ) -> Result<(), Ended> {
     let flows = read_flows(rt, task, keys, times)?;
-    let mut captures = open(rt, task, Progress::Silent)?;
-    print_lists(
+    let (mut captures, flows) = beside(open(rt, task, Progress::Silent), flows)?;
+    let printed = print_lists(
         rt.alloc(),
         keys,
         &mut captures,
@@ -44,8 +45,9 @@ fn print_lists_from<R: AllocGlobal + Eprint + Files, W: Write>(
         lists_of(task),
         format,
         writer,
-    )?;
-    Ok(())
+    );
+    drop(captures);
+    Ok(printed?)
 }
 
 /// Prints the lists that are wanted: those of so many sources at a time as memory allows.
@@ -86,10 +88,24 @@ fn write_figures<W: Write>(
     report: Report,
     writer: &mut W,
 ) -> Result<(), Ended> {
-    if format != Format::Csv || !lists_of(task).is_some() {
-        report.print_recorded(writer, format, &times.recorded)?;
-    }
-    Ok(())
+    let printed = if format != Format::Csv || !lists_of(task).is_some() {
+        report.print_recorded(writer, format, &times.recorded)
+    } else {
+        Ok(())
+    };
+    drop(report);
+    Ok(printed?)
+}
+
+/// Writes what is told of the network, and the clocks.
+fn write_front<W: Write>(
+    format: Format,
+    verdicts: &[Verdict],
+    known: Known,
+    writer: &mut W,
+) -> Result<(), Ended> {
+    print_verdicts(writer, format, verdicts)?;
+    write_clocks(format, known, writer)
 }
 
 /// Writes what is told of the network, the clocks, the streams and the sources, figures and lists. A table is that of the list that is wanted, if one
@@ -107,8 +123,8 @@ fn write_lines<R: AllocGlobal + Eprint + Files, W: Write>(
     format: Format,
     writer: &mut W,
 ) -> Result<(), Ended> {
-    print_verdicts(writer, format, verdicts)?;
-    write_clocks(format, known, writer)?;
+    let front = write_front(format, verdicts, known, writer);
+    let ((), report) = beside(front, report)?;
     write_figures(task, format, times, report, writer)?;
     write_streams(rt, task, writer)?;
     print_nodes(writer, format, sources)?;
