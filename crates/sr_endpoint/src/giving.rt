@@ -1,6 +1,6 @@
 //! What goes out of a node.
 
-ghost use Rattle.std.specs.Prelude.{◌≡◌, ◌<◌, ◌≤◌, ◌+◌, ◌++◌, length, take, IfSome, IfNone};
+ghost use Rattle.std.specs.Prelude.{◌≡◌, ◌<◌, ◌≤◌, ◌+◌, ◌++◌, ◌⊎◌, length, take, IfSome, IfNone};
 ghost use Rattle.sr_forwarding.specs.Encoding.{IsWritten};
 ghost use Rattle.sr_forwarding.specs.Framings.{Tagged, Trailed};
 ghost use Rattle.sr_forwarding.specs.Kinds.{carriage};
@@ -24,6 +24,8 @@ fn put(buffer: &mut [u8], front: &[u8], behind: &[u8]) -> Option<usize>
     ensures put { IfSome result (λ count. take count buffer.new ≡ front.now ++ behind.now) }
     ensures some { IfSome result (λ count. 0 < count) }
     ensures same { IfNone result (buffer.new ≡ buffer.old) }
+    ensures none { IfNone result ((length front.now + length behind.now ≡ 0)
+        ⊎ (length buffer.old < length front.now + length behind.now)) }
 {
     let count = front.len() + behind.len();
     if count == 0 || count > buffer.len() {
