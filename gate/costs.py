@@ -238,6 +238,35 @@ def sources_that_return(costs, failed):
     same("sources that were all silent", costs.run(node("danp"), once), costs.run(node("danp"), again), failed, allowed=20)
 
 
+def drawn_keys(costs, failed):
+    """Addresses that meet in a table under the keys that anyone can know take no longer than others: the program drew the keys of each"""
+    finder = f"{costs.room}/meeting"
+    subprocess.run([os.environ.get("CC", "cc"), "-O2", "-Wall", "-Werror", "-o", finder, f"{TOP}/gate/c/meeting.c"], check=True)
+    meeting = [int(it, 16) for it in subprocess.run([finder, "1000"], stdout=subprocess.PIPE, text=True, check=True).stdout.split()]
+    others = range(0x020000100000, 0x020000100000 + len(meeting))
+
+    def script(addresses):
+        return "".join(trailed(it, number) for number in range(100) for it in addresses).encode()
+
+    def hosts(addresses):
+        return "".join(f"in C 0 ffffffffffff{it:012x}0800{0:092d}\n" for _ in range(100) for it in addresses).encode()
+
+    def files(addresses):
+        frames = [(it - 0x020000000100, number) for number in range(100) for it in addresses]
+        return [word for lan in "ab" for word in (f"--{lan}", write_capture(costs, f"keys-{addresses[0]}-{lan}", frames, 10_000, lan))]
+
+    captured = [files(it) for it in (others, meeting)]
+    for name, runs in (
+            ("sources and nodes", [(node("danp"), script(it)) for it in (others, meeting)]),
+            ("hosts of a box", [(node("san"), hosts(it)) for it in (others, meeting)]),
+            ("audit", [(["audit", *it],) for it in captured]),
+            ("merge", [(["merge", "-w", "-", *it],) for it in captured]),
+            ("watch", [(["watch", *it],) for it in captured])):
+        one, other = (costs.least_seconds(*it) for it in runs)
+        if other > 1.3 * max(one, 0.05):
+            failed.append(f"{name}: {one:.2f} s of 1000 addresses, {other:.2f} s of as many that meet")
+
+
 def networks(costs, failed):
     """Frames that have gone round a network leave nothing; a copy in flight takes little more than its octets."""
     ring = ["ring", "--nodes", "3"]
@@ -410,8 +439,8 @@ def most_of_tests(costs, failed):
             failed.append(f"{crate}::{test} holds {octets} octets, and {most} are enough")
 
 
-ROWS = (known_sources, one_more_source, alone, forwarded, host, hosts_of_a_box, floods, sources_that_return, networks, threads,
-        captures, judged, listed, blocks, not_gone_over, waiting, together, most_of_tests)
+ROWS = (known_sources, one_more_source, alone, forwarded, host, hosts_of_a_box, floods, sources_that_return, drawn_keys, networks,
+        threads, captures, judged, listed, blocks, not_gone_over, waiting, together, most_of_tests)
 
 
 def main(program, tests=None):
