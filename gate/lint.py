@@ -325,7 +325,7 @@ def dropped_keys(root):
                 hands_on = hands_on or re.search(r"\bkeys\b", code.replace("let _ = keys;", "")) is not None
                 if any(name in keyed for name in re.findall(r"\b(\w+)::(?:new|with)\(", code)):
                     yield path, number, "makes a table without the keys that it is given"
-            if not found and name.startswith("crates/sr_cli/"):
+            if not found and name.startswith(("crates/sr_cli/", "crates/sr_capture_commands/")):
                 runs = runs or re.search(r"\brun_leaving\(", code) is not None
                 if "Keys::new(" in code:
                     drawn = False

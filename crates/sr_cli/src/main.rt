@@ -2,30 +2,15 @@
 #![tactic(auto)]
 
 mod arguments;
-mod audit;
-mod bounds;
-mod clocks;
-mod dated;
-mod files;
-mod joined;
+mod kept;
 mod meanings;
-mod merge;
-mod order;
-mod owned;
-mod pipes;
-mod progress;
 mod running;
-mod script;
-mod spelled;
 mod stations;
-mod watch;
 
 use arguments::tell_unread;
-use audit::run_audit;
-use merge::run_merge;
-use progress::Progress;
 use running::{play, play_threaded, run_node};
-use script::run_script;
+use sr_capture_commands::{run_audit, run_merge, run_script, run_watch};
+use sr_command_io::Progress;
 use sr_options::{Refused, Task, Words, task_of};
 use sr_script::Report;
 use sr_watch_live::Job;
@@ -36,7 +21,6 @@ use std::rt::{Env, Files};
 use std::sync::Wait;
 use std::thread::{self, Threads};
 use std::time::Clock;
-use watch::run_watch;
 
 /// The exit status of a fault of the script, a read, a write or memory.
 const RUN_FAILED: u8 = 1;

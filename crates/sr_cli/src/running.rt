@@ -1,19 +1,20 @@
 //! Runs of a script on standard input, on a node or on a plant. What ends one early is told on standard error: its first line is
 //! the fault, and the second says what is wrong and what to do.
 
+use crate::kept::{Kept, MAX_KEPT};
 use crate::meanings::{plant_of, setup_of, threads_of};
-use crate::pipes::{Kept, MAX_KEPT, Pipe};
-use crate::spelled::Spelled;
 use crate::stations::station_of;
 use sr_advice::{Flaw, ScriptKind, found_in, is_capture, tail_advice};
+use sr_command_io::{Pipe, Spelled};
 use sr_forwarding::RoleKind;
-use sr_json_lines::JsonLines;
+use sr_json_lines::{JsonLines, JsonStatus};
 use sr_options::{LineFormat, NodeTask, PlantFormat, PlantTask, ThreadsTask};
 use sr_plant_picture::run_picture;
 use sr_plant_script::{PlantSetup, run_plant};
 use sr_script::{Report, Setup, run_leaving};
 use sr_session::{Fault, FaultKind, NOT_BEGUN};
 use sr_slots::Keys;
+use sr_text::Text;
 use sr_threaded_script::{ThreadedFault, is_threaded_line, run_threaded};
 use std::alloc::{AllocError, Global};
 use std::io::{self, BufReader, Read, Write};
@@ -196,6 +197,22 @@ fn tell_end<R: Eprint, S: Read + Drop>(
     }
 }
 
+/// A writer of what is reported of a node, of which these are the members.
+fn spelled_of<W>(
+    alloc: Global,
+    format: LineFormat,
+    report: Report,
+    station: Text,
+    inner: W,
+) -> Spelled<W> {
+    match (format, report) {
+        (LineFormat::Json, Report::Status | Report::Tally) => {
+            Spelled::Status(JsonStatus::new(alloc, inner, station))
+        }
+        (format, _) => Spelled::new(alloc, format, inner),
+    }
+}
+
 /// Runs the script on standard input on a node, and writes what is reported of it to standard output. The keys of the node's
 /// tables are drawn anew. What ends it early is told.
 pub fn run_node<R: AllocGlobal + Print + Eprint + Input + RandomSource>(
@@ -221,7 +238,7 @@ pub fn run_node<R: AllocGlobal + Print + Eprint + Input + RandomSource>(
         ..setup_of(task)
     };
     let pipe = Pipe::new(io::writer(rt));
-    let mut writer = Spelled::of_node(alloc, task.format, report, station, pipe);
+    let mut writer = spelled_of(alloc, task.format, report, station, pipe);
     let mut line = Vec::new(alloc);
     match run_leaving(alloc, &setup, report, &mut script, &mut writer, &mut line) {
         Ok(()) => {

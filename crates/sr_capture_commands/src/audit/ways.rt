@@ -1,12 +1,11 @@
 //! Whether the captures of a ring each have both its ways, as those of a node's ports that have what goes out too.
 
-use crate::audit::Ended;
 use crate::audit::passes::open;
 use crate::meanings::{network_of, subject_of};
-use crate::progress::Progress;
 use sr_audit::Spans;
 use sr_capture_audit::{Network, Subject, figures_of};
 use sr_capture_script::Inlet;
+use sr_command_io::{Ended, Progress};
 use sr_options::{AuditTask, Ports};
 use sr_slots::Keys;
 use std::rt::Files;
@@ -57,7 +56,7 @@ fn has_both<R: AllocGlobal + Eprint + Files>(
 }
 
 /// Whether both captures of a ring have both ways, each frame going by twice: where copies of sources came before, passes of their own tell.
-pub fn have_both_ways<R: AllocGlobal + Eprint + Files>(
+pub(crate) fn have_both_ways<R: AllocGlobal + Eprint + Files>(
     rt: &R,
     task: &AuditTask<'_>,
     keys: Keys,

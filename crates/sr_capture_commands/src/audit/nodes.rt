@@ -1,19 +1,18 @@
 //! The sources in the captures of an audit, by their frames, and what their recorders dropped.
 
-use crate::audit::Ended;
 use crate::audit::passes::open;
 use crate::meanings::subject_of;
-use crate::progress::Progress;
 use sr_audit::Sides;
 use sr_capture_script::Inlet;
 use sr_capture_sources::sources_of;
+use sr_command_io::{Ended, Progress};
 use sr_options::AuditTask;
 use sr_slots::Keys;
 use sr_sources::Sources;
 use std::rt::Files;
 
 /// What frames and supervision tell of the sources, and how many packets the recorders say that they dropped, by a pass of its own.
-pub fn read_nodes<R: AllocGlobal + Eprint + Files>(
+pub(crate) fn read_nodes<R: AllocGlobal + Eprint + Files>(
     rt: &R,
     task: &AuditTask<'_>,
     keys: Keys,

@@ -1,37 +1,34 @@
 //! The passes of an audit over its captures: two where nothing was lost, and one or two more for what tells of losses.
 
-use crate::audit::Ended;
 use crate::audit::losses::{read_losses, read_missing};
 use crate::audit::subjects::subject_at;
 use crate::audit::ways::have_both_ways;
-use crate::files::{Opened, open_captures};
-use crate::owned::beside;
-use crate::progress::Progress;
 use sr_audit::{Audit, Span, Spans};
 use sr_capture_audit::{
     Flows, Gathered, Report, Rule, Subject, flows_in, gathered_of, inner_spans, ruled_of, spans_of,
 };
 use sr_capture_script::{Captures, Front};
 use sr_clocks::Line;
+use sr_command_io::{Ended, Opened, Progress, beside, open_captures};
 use sr_options::AuditTask;
 use sr_slots::Keys;
 use std::rt::Files;
 
 /// When the captures begin and end, and the parts of them in which a frame is missing that has no copy there.
 #[derive(Clone, Copy)]
-pub struct Times {
+pub(crate) struct Times {
     /// When they begin and end.
-    pub recorded: Spans,
+    pub(crate) recorded: Spans,
     /// The parts that are judged.
-    pub judged: Spans,
+    pub(crate) judged: Spans,
     /// By how much times of B differ from these.
-    pub clock: Option<Line>,
+    pub(crate) clock: Option<Line>,
     /// Whether some frames alone tell what was lost.
-    pub judges_some: bool,
+    pub(crate) judges_some: bool,
 }
 
 /// Opens the captures for a pass.
-pub fn open<'a, R: AllocGlobal + Eprint + Files>(
+pub(crate) fn open<'a, R: AllocGlobal + Eprint + Files>(
     rt: &'a R,
     task: &AuditTask<'_>,
     progress: Progress,
@@ -40,7 +37,7 @@ pub fn open<'a, R: AllocGlobal + Eprint + Files>(
 }
 
 /// Where and when the earliest packet came in. None: there is none.
-pub fn read_front<R: AllocGlobal + Eprint + Files>(
+pub(crate) fn read_front<R: AllocGlobal + Eprint + Files>(
     rt: &R,
     task: &AuditTask<'_>,
 ) -> Result<Option<Front>, Ended> {
@@ -85,7 +82,7 @@ fn audited_spans(task: &AuditTask<'_>, recorded: Spans) -> Spans {
 }
 
 /// The parts in which a frame is missing that has no copy: all of them where both recorders ran all the time.
-pub fn judged_spans(task: &AuditTask<'_>, edge_width: u64, audited: Spans) -> Spans {
+pub(crate) fn judged_spans(task: &AuditTask<'_>, edge_width: u64, audited: Spans) -> Spans {
     if task.is_whole {
         audited
     } else {
@@ -94,7 +91,7 @@ pub fn judged_spans(task: &AuditTask<'_>, edge_width: u64, audited: Spans) -> Sp
 }
 
 /// What one pass gathers: the figures of the captures, the RedBoxes that supervision names, and what is asked for under two rules.
-pub fn read_gathered<R: AllocGlobal + Eprint + Files>(
+pub(crate) fn read_gathered<R: AllocGlobal + Eprint + Files>(
     rt: &R,
     task: &AuditTask<'_>,
     subject: Subject,
@@ -120,7 +117,7 @@ pub fn read_gathered<R: AllocGlobal + Eprint + Files>(
 }
 
 /// The figures of the captures under a rule, by a pass of their own.
-pub fn read_ruled<R: AllocGlobal + Eprint + Files>(
+pub(crate) fn read_ruled<R: AllocGlobal + Eprint + Files>(
     rt: &R,
     task: &AuditTask<'_>,
     subject: Subject,
@@ -143,7 +140,7 @@ pub fn read_ruled<R: AllocGlobal + Eprint + Files>(
 }
 
 /// The flows that both captures see, for lists, by a pass of their own, where not all frames tell what was lost.
-pub fn read_flows<R: AllocGlobal + Eprint + Files>(
+pub(crate) fn read_flows<R: AllocGlobal + Eprint + Files>(
     rt: &R,
     task: &AuditTask<'_>,
     keys: Keys,
@@ -161,17 +158,17 @@ pub fn read_flows<R: AllocGlobal + Eprint + Files>(
 
 /// What is known of captures before anything is written.
 #[derive(Drop)]
-pub struct Read {
+pub(crate) struct Read {
     /// When they begin and end.
-    pub times: Times,
+    pub(crate) times: Times,
     /// Their figures.
-    pub report: Report,
+    pub(crate) report: Report,
     /// Whether those of a ring each have both its ways.
-    pub are_both_ways: bool,
+    pub(crate) are_both_ways: bool,
 }
 
 /// What is known of the captures before anything is written.
-pub fn read_all<R: AllocGlobal + Eprint + Files>(
+pub(crate) fn read_all<R: AllocGlobal + Eprint + Files>(
     rt: &R,
     task: &AuditTask<'_>,
     subject: Subject,

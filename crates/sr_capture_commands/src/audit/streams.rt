@@ -1,17 +1,16 @@
 //! The streams of GOOSE and sampled values in the captures of an audit.
 
-use crate::audit::Ended;
 use crate::audit::passes::open;
 use crate::meanings::lines_of;
-use crate::progress::Progress;
 use sr_capture_audit::Format;
 use sr_capture_streams::{print_streams, streams_of};
+use sr_command_io::{Ended, Progress};
 use sr_options::AuditTask;
 use std::io::Write;
 use std::rt::Files;
 
 /// Writes what is known of the streams, by a pass of its own, unless a table or a picture is wanted in its place.
-pub fn write_streams<R: AllocGlobal + Eprint + Files, W: Write>(
+pub(crate) fn write_streams<R: AllocGlobal + Eprint + Files, W: Write>(
     rt: &R,
     task: &AuditTask<'_>,
     writer: &mut W,

@@ -16,7 +16,7 @@ pub enum Progress {
 
 /// A file that tells how much of it was read, in hundredths, where it is large.
 #[derive(Drop)]
-pub struct Metered<'a, F, R> {
+pub(crate) struct Metered<'a, F, R> {
     rt: &'a R,
     file: F,
     letter: &'static str,
@@ -28,7 +28,7 @@ pub struct Metered<'a, F, R> {
 
 impl<'a, F, R> Metered<'a, F, R> {
     /// A file of so many octets, of which none was read.
-    pub fn new(
+    pub(crate) fn new(
         rt: &'a R,
         file: F,
         letter: &'static str,

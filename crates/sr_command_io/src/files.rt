@@ -1,7 +1,7 @@
 //! The files of captures: opened as one, and what is wrong with one of them.
 
-use crate::audit::Ended;
 use crate::bounds::{HEAD_LEN, Kind, compression_of, kind_of};
+use crate::ended::Ended;
 use crate::joined::{Joined, Part, flaw_of};
 use crate::owned::beside;
 use crate::progress::{Metered, Progress};

@@ -1,14 +1,13 @@
 //! What tells of the losses of captures: the passes that are taken where frames came by one side alone, or numbers are missing.
 
-use crate::audit::Ended;
 use crate::audit::passes::{judged_spans, read_gathered, read_ruled};
 use crate::meanings::network_of;
-use crate::owned::beside;
 use sr_audit::{Audit, Spans};
 use sr_capture_audit::{
     Flows, Gathered, Network, RedBoxes, Report, Rule, Ruling, Sight, Subject, flows_in, judges_all,
     sight_of,
 };
+use sr_command_io::{Ended, beside};
 use sr_options::AuditTask;
 use sr_slots::Keys;
 use std::rt::Files;
@@ -263,7 +262,7 @@ fn counting_where(
 
 /// A report where frames came by one side alone, by passes that leave out the edges of the captures: the other recorder may have begun between
 /// the copies of a frame, or ended there.
-pub fn read_losses<R: AllocGlobal + Eprint + Files>(
+pub(crate) fn read_losses<R: AllocGlobal + Eprint + Files>(
     rt: &R,
     task: &AuditTask<'_>,
     subject: Subject,
@@ -295,7 +294,7 @@ pub fn read_losses<R: AllocGlobal + Eprint + Files>(
 }
 
 /// A report where no frame came by one side alone: numbers of which no frame came are told by the counters, by a pass of their own.
-pub fn read_missing<R: AllocGlobal + Eprint + Files>(
+pub(crate) fn read_missing<R: AllocGlobal + Eprint + Files>(
     rt: &R,
     task: &AuditTask<'_>,
     subject: Subject,

@@ -8,7 +8,7 @@ use std::io::{self, Read};
 
 /// A file, and what was read ahead of it.
 #[derive(Drop)]
-pub struct Part<F> {
+pub(crate) struct Part<F> {
     file: F,
     head: [u8; HEAD_LEN],
     len: usize,
@@ -17,7 +17,7 @@ pub struct Part<F> {
 
 impl<F: Read> Part<F> {
     /// A file of which nothing was read.
-    pub fn new(file: F) -> Part<F> {
+    pub(crate) fn new(file: F) -> Part<F> {
         Part {
             file,
             head: [0; HEAD_LEN],
@@ -30,7 +30,7 @@ impl<F: Read> Part<F> {
     ///
     /// # Errors
     /// Where it can't be read.
-    pub fn look(&mut self) -> io::Result<()> {
+    pub(crate) fn look(&mut self) -> io::Result<()> {
         for _ in 0..HEAD_LEN {
             let Some(space) = self.head.get_mut(self.len..) else {
                 return Ok(());
@@ -45,12 +45,12 @@ impl<F: Read> Part<F> {
     }
 
     /// What was read ahead.
-    pub fn head(&self) -> &[u8] {
+    pub(crate) fn head(&self) -> &[u8] {
         self.head.get(..self.len).unwrap_or(&[])
     }
 
     /// What was read ahead, and zeros behind it.
-    pub fn front(&self) -> [u8; HEAD_LEN] {
+    pub(crate) fn front(&self) -> [u8; HEAD_LEN] {
         self.head
     }
 
@@ -69,7 +69,7 @@ impl<F: Read> Part<F> {
 }
 
 /// Why a file that begins so does not go on where one that begins otherwise ended. None: it does.
-pub fn flaw_of(first: &[u8], head: &[u8]) -> Option<&'static str> {
+pub(crate) fn flaw_of(first: &[u8], head: &[u8]) -> Option<&'static str> {
     let kind = kind_of(first);
     if kind == Kind::Other {
         // What is wrong with the first file is told where it is read.
@@ -89,7 +89,7 @@ pub fn flaw_of(first: &[u8], head: &[u8]) -> Option<&'static str> {
 
 /// The files of a capture. Behind the end of one the next is read, but where it ends within a packet: there the capture ends.
 #[derive(Drop)]
-pub struct Joined<F> {
+pub(crate) struct Joined<F> {
     parts: Vec<Part<F>>,
     place: usize,
     // How many more octets are read.
@@ -99,7 +99,7 @@ pub struct Joined<F> {
 
 impl<F: Read + Drop> Joined<F> {
     /// No files, of which so many octets are read.
-    pub fn new(alloc: Global, most: u64) -> Joined<F> {
+    pub(crate) fn new(alloc: Global, most: u64) -> Joined<F> {
         Joined {
             parts: Vec::new(alloc),
             place: 0,
@@ -112,7 +112,7 @@ impl<F: Read + Drop> Joined<F> {
     ///
     /// # Errors
     /// Where the memory for it is refused.
-    pub fn push(&mut self, part: Part<F>) -> Result<(), AllocError> {
+    pub(crate) fn push(&mut self, part: Part<F>) -> Result<(), AllocError> {
         if self.parts.is_empty() {
             self.bounds = Bounds::new(kind_of(part.head()));
         }
@@ -123,7 +123,7 @@ impl<F: Read + Drop> Joined<F> {
     }
 
     /// What was read ahead of the first file. None: there is none.
-    pub fn first_head(&self) -> Option<&[u8]> {
+    pub(crate) fn first_head(&self) -> Option<&[u8]> {
         Some(self.parts.first()?.head())
     }
 

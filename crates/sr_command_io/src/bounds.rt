@@ -1,11 +1,11 @@
 //! Where packets end in what is read of captures of one kind, and by which octets a kind is told.
 
 /// So many octets at the front of a file tell its kind: the header of a pcap file.
-pub const HEAD_LEN: usize = 24;
+pub(crate) const HEAD_LEN: usize = 24;
 
 /// The kind of a file, by its first octets.
 #[derive(Clone, Copy, PartialEq, Eq)]
-pub enum Kind {
+pub(crate) enum Kind {
     /// A pcap file whose numbers have their lowest octet first.
     LittlePcap,
     /// One whose numbers have their highest octet first.
@@ -17,7 +17,7 @@ pub enum Kind {
 }
 
 /// The kind of a file that begins so.
-pub fn kind_of(head: &[u8]) -> Kind {
+pub(crate) fn kind_of(head: &[u8]) -> Kind {
     if head.starts_with(&[0xd4, 0xc3, 0xb2, 0xa1]) || head.starts_with(&[0x4d, 0x3c, 0xb2, 0xa1]) {
         Kind::LittlePcap
     } else if head.starts_with(&[0xa1, 0xb2, 0xc3, 0xd4])
@@ -33,7 +33,7 @@ pub fn kind_of(head: &[u8]) -> Kind {
 
 impl Kind {
     /// How many octets stand before the packets of a file behind the first, which says the same there.
-    pub fn again_len(self) -> usize {
+    pub(crate) fn again_len(self) -> usize {
         match self {
             Kind::LittlePcap | Kind::BigPcap => HEAD_LEN,
             Kind::Pcapng | Kind::Other => 0,
@@ -42,7 +42,7 @@ impl Kind {
 }
 
 /// What a file that begins so has to be done to, where a tool compressed it.
-pub fn compression_of(head: &[u8]) -> Option<&'static str> {
+pub(crate) fn compression_of(head: &[u8]) -> Option<&'static str> {
     if head.starts_with(&[0x1f, 0x8b]) {
         Some("the file is compressed: gunzip it")
     } else if head.starts_with(&[0x28, 0xb5, 0x2f, 0xfd]) {
@@ -57,7 +57,7 @@ const MAX_HEAD: usize = 16;
 
 /// How far captures of one kind were read: whether a packet ends there, or a block of a pcapng file.
 #[derive(Clone, Copy)]
-pub struct Bounds {
+pub(crate) struct Bounds {
     kind: Kind,
     // Whether the section of a pcapng file has numbers with their highest octet first.
     is_big: bool,
@@ -78,7 +78,7 @@ fn number_of(octets: [u8; 4], is_big: bool) -> u32 {
 
 impl Bounds {
     /// The start of a capture of this kind.
-    pub fn new(kind: Kind) -> Bounds {
+    pub(crate) fn new(kind: Kind) -> Bounds {
         Bounds {
             kind,
             is_big: kind == Kind::BigPcap,
@@ -89,7 +89,7 @@ impl Bounds {
     }
 
     /// Whether a packet ends where it was read to.
-    pub fn is_at_end(&self) -> bool {
+    pub(crate) fn is_at_end(&self) -> bool {
         self.left == 0 && self.have == 0
     }
 
@@ -140,7 +140,7 @@ impl Bounds {
     }
 
     /// Goes on over what was read.
-    pub fn note(&mut self, octets: &[u8]) {
+    pub(crate) fn note(&mut self, octets: &[u8]) {
         let mut rest = octets;
         for _ in 0..octets.len() {
             if rest.is_empty() {

@@ -1,11 +1,11 @@
 //! The subcommand `watch`: tells of captures while they grow, and of their faults.
 
 use crate::meanings::watch_network_of;
-use crate::pipes::Pipe;
 use crate::script::tell_other;
 use sr_advice::{FileFault, FileReason, Unopened, letter_of};
 use sr_capture_file::Reading;
 use sr_capture_script::{Inlet, ScriptFault};
+use sr_command_io::Pipe;
 use sr_options::{LineFormat, Paths, Ports, WatchTask};
 use sr_pcapng::Wanted;
 use sr_prp_trailer::Lan;

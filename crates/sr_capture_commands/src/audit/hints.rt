@@ -91,7 +91,7 @@ fn tell_left_out<R: Eprint>(rt: &R, task: &AuditTask<'_>, packets: u64) {
 }
 
 /// Says what looks wrong in the captures, though there are figures.
-pub fn tell_odd<R: Eprint>(rt: &R, task: &AuditTask<'_>, spans: &Spans, summary: &Summary) {
+pub(crate) fn tell_odd<R: Eprint>(rt: &R, task: &AuditTask<'_>, spans: &Spans, summary: &Summary) {
     let choice = task.options.choice;
     if choice.to.is_some_and(|to| to < choice.from) {
         let _ = eprintln!(rt; "no time is wanted: --from is behind --to");

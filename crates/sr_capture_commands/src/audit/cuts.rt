@@ -1,15 +1,15 @@
 //! Captures that end within a packet: they are told up to there, and then the fault is.
 
-use crate::audit::{Ended, RUN_FAILED, sides_of};
-use crate::files::tell_file;
+use crate::audit::{RUN_FAILED, sides_of};
 use sr_capture::{CaptureFault, Reason};
 use sr_capture_script::{Inlet, ScriptFault};
+use sr_command_io::{Ended, tell_file};
 use sr_options::{AuditTask, Paths};
 use std::rt::Files;
 
 /// The captures that end within a packet, and where.
 #[derive(Clone, Copy)]
-pub struct Cuts {
+pub(crate) struct Cuts {
     a: Option<CaptureFault>,
     b: Option<CaptureFault>,
 }
@@ -24,10 +24,10 @@ fn up_to(paths: Option<Paths<'_>>, cut: Option<CaptureFault>) -> Option<Paths<'_
 
 impl Cuts {
     /// None of them.
-    pub const NONE: Cuts = Cuts { a: None, b: None };
+    pub(crate) const NONE: Cuts = Cuts { a: None, b: None };
 
     /// These, and one more. None: what ended an audit is no such end, or that of a capture that has one already.
-    pub fn and(self, ended: Ended) -> Option<Cuts> {
+    pub(crate) fn and(self, ended: Ended) -> Option<Cuts> {
         let Ended::By(ScriptFault::File(inlet, fault)) = ended else {
             return None;
         };
@@ -48,7 +48,7 @@ impl Cuts {
     }
 
     /// A task of the captures up to there.
-    pub fn applied<'a>(self, task: &AuditTask<'a>) -> AuditTask<'a> {
+    pub(crate) fn applied<'a>(self, task: &AuditTask<'a>) -> AuditTask<'a> {
         AuditTask {
             a: up_to(task.a, self.a),
             b: up_to(task.b, self.b),
@@ -57,7 +57,7 @@ impl Cuts {
     }
 
     /// Says where the captures end within a packet. The error is the exit status.
-    pub fn tell<R: Eprint + Files>(self, rt: &R, task: &AuditTask<'_>) -> Result<(), u8> {
+    pub(crate) fn tell<R: Eprint + Files>(self, rt: &R, task: &AuditTask<'_>) -> Result<(), u8> {
         let sides = sides_of(task);
         if let Some(fault) = self.a {
             tell_file(rt, sides.a, Inlet::A, fault);

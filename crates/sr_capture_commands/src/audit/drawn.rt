@@ -1,14 +1,12 @@
 //! What an audit draws in place of lines: a picture.
 
-use crate::audit::Ended;
 use crate::audit::passes::{Times, open, read_flows};
 use crate::audit::subjects::subject_at;
-use crate::owned::beside;
-use crate::progress::Progress;
 use sr_audit::LISTED_AT_ONCE;
 use sr_audit_charts::{Kept, MAX_CHARTS, SourceLine, lines_in, print_picture, rank, times_of};
 use sr_capture_audit::{Report, tell_fates};
 use sr_capture_script::ScriptFault;
+use sr_command_io::{Ended, Progress, beside};
 use sr_options::AuditTask;
 use sr_slots::Keys;
 use std::io::Write;
@@ -41,7 +39,7 @@ fn trace_from<R: AllocGlobal + Eprint + Files>(
 }
 
 /// Has what is kept take the frames of all sources: those of so many at a time as memory allows.
-pub fn trace<R: AllocGlobal + Eprint + Files>(
+pub(crate) fn trace<R: AllocGlobal + Eprint + Files>(
     rt: &R,
     task: &AuditTask<'_>,
     keys: Keys,
@@ -57,7 +55,7 @@ pub fn trace<R: AllocGlobal + Eprint + Files>(
 }
 
 /// What is told of the sources, the worst first. The figures are let go, so that what is drawn finds room.
-pub fn ranked<R: AllocGlobal>(rt: &R, report: Report) -> Result<Vec<SourceLine>, Ended> {
+pub(crate) fn ranked<R: AllocGlobal>(rt: &R, report: Report) -> Result<Vec<SourceLine>, Ended> {
     let lines = lines_in(rt.alloc(), &report);
     drop(report);
     let Ok(mut lines) = lines else {
@@ -70,7 +68,7 @@ pub fn ranked<R: AllocGlobal>(rt: &R, report: Report) -> Result<Vec<SourceLine>,
 }
 
 /// What is kept of the worst sources, so many of them with their skews, by a pass of its own.
-pub fn keep<R: AllocGlobal + Eprint + Files>(
+pub(crate) fn keep<R: AllocGlobal + Eprint + Files>(
     rt: &R,
     task: &AuditTask<'_>,
     keys: Keys,
@@ -88,7 +86,7 @@ pub fn keep<R: AllocGlobal + Eprint + Files>(
 }
 
 /// Draws the picture of the worst sources.
-pub fn draw<R: AllocGlobal + Eprint + Files, W: Write>(
+pub(crate) fn draw<R: AllocGlobal + Eprint + Files, W: Write>(
     rt: &R,
     task: &AuditTask<'_>,
     keys: Keys,

@@ -1,6 +1,5 @@
 //! What an audit writes to standard output: what is told of the network, the figures, and lists, or a picture or a page.
 
-use crate::audit::Ended;
 use crate::audit::drawn::draw;
 use crate::audit::page::print_page;
 use crate::audit::passes::{Times, open, read_flows};
@@ -8,12 +7,11 @@ use crate::audit::streams::write_streams;
 use crate::audit::subjects::subject_at;
 use crate::clocks::Known;
 use crate::meanings::{lines_of, lists_of};
-use crate::owned::beside;
-use crate::progress::Progress;
 use sr_audit::{LISTED_AT_ONCE, MAX_SOURCES};
 use sr_capture_audit::{Format, Report, Summary, print_clocks, print_lists};
 use sr_capture_script::ScriptFault;
 use sr_capture_sources::print_nodes;
+use sr_command_io::{Ended, Progress, beside};
 use sr_options::AuditTask;
 use sr_slots::Keys;
 use sr_sources::Sources;
@@ -134,7 +132,7 @@ fn write_lines<R: AllocGlobal + Eprint + Files, W: Write>(
 }
 
 /// Writes all that is wanted: lines, or a picture or a page in their place.
-pub fn write_all<R: AllocGlobal + Eprint + Files, W: Write>(
+pub(crate) fn write_all<R: AllocGlobal + Eprint + Files, W: Write>(
     rt: &R,
     task: &AuditTask<'_>,
     keys: Keys,

@@ -1,8 +1,7 @@
 //! The file of names of nodes: an address and a name in each line.
 
-use crate::audit::Ended;
-use crate::owned::beside;
 use sr_capture_script::ScriptFault;
+use sr_command_io::{Ended, beside};
 use sr_frame::Mac;
 use sr_markup::Escaped;
 use sr_options::mac_of;
@@ -83,7 +82,7 @@ fn add_lines<R: AllocGlobal + Eprint>(
 }
 
 /// The names of nodes that a file has, if one is named. Standard error is told what is wrong with it.
-pub fn read_names<R: AllocGlobal + Eprint + Files>(
+pub(crate) fn read_names<R: AllocGlobal + Eprint + Files>(
     rt: &R,
     path: Option<&str>,
 ) -> Result<Vec<NodeName>, Ended> {

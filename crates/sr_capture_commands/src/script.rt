@@ -3,14 +3,9 @@
 use crate::clocks::{
     Known, Unknown, Untold, recorders_of_script, seek_clocks, tell_ahead, tell_untold,
 };
-use crate::files::{Opened, Sides, open_file, shown_of, tell_file};
-use crate::order::check_order;
-use crate::owned::beside;
-use crate::pipes::{Pipe, Surveyed};
-use crate::progress::Progress;
-use crate::spelled::Spelled;
 use sr_advice::{FileFault, letter_of};
 use sr_capture_script::{Inlet, ScriptFault, script};
+use sr_command_io::{Opened, Pipe, Progress, Sides, Spelled, Surveyed, beside, check_order, open_file, shown_of, tell_file};
 use sr_options::{LineFormat, Paths, ScriptTask};
 use sr_pcapng::Wanted;
 use std::alloc::AllocError;
@@ -64,7 +59,7 @@ fn tell_lines<R: Eprint>(rt: &R, lines: u64) {
 }
 
 /// Says what ended going over captures early, but where nobody reads any more what is written. It is no fault of a file.
-pub fn tell_other<R: Eprint>(rt: &R, fault: ScriptFault, is_closed: bool) {
+pub(crate) fn tell_other<R: Eprint>(rt: &R, fault: ScriptFault, is_closed: bool) {
     match fault {
         ScriptFault::File(inlet, fault) => {
             let told = FileFault { inlet, fault };
@@ -83,7 +78,7 @@ pub fn tell_other<R: Eprint>(rt: &R, fault: ScriptFault, is_closed: bool) {
 }
 
 /// Says what ended going over captures early, but where nobody reads any more what is written.
-pub fn tell_ended<R: Eprint + Files>(
+pub(crate) fn tell_ended<R: Eprint + Files>(
     rt: &R,
     sides: &Sides<'_>,
     fault: ScriptFault,

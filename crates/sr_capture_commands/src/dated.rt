@@ -6,7 +6,7 @@ use std::io::{self, ErrorKind, Write};
 
 /// How times are told.
 #[derive(Clone, Copy, PartialEq, Eq)]
-pub enum Dating {
+pub(crate) enum Dating {
     /// As they are: from the earliest packet on.
     Relative,
     /// In lines of words, by times of day in their places, of which the earliest packet has this one.
@@ -17,7 +17,7 @@ pub enum Dating {
 
 /// A writer of lines, in which times are told so.
 #[derive(Drop)]
-pub struct Dated<W> {
+pub(crate) struct Dated<W> {
     inner: W,
     dating: Dating,
     line: Vec<u8>,
@@ -99,7 +99,7 @@ fn write_object<W: Write>(inner: &mut W, first: Moment, line: &str) -> io::Resul
 
 impl<W: Write> Dated<W> {
     /// A writer to which nothing was written.
-    pub fn new(alloc: Global, inner: W, dating: Dating) -> Dated<W> {
+    pub(crate) fn new(alloc: Global, inner: W, dating: Dating) -> Dated<W> {
         Dated {
             inner,
             dating,
@@ -108,7 +108,7 @@ impl<W: Write> Dated<W> {
     }
 
     /// What it writes to.
-    pub fn get_ref(&self) -> &W {
+    pub(crate) fn get_ref(&self) -> &W {
         &self.inner
     }
 

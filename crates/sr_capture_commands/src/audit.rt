@@ -16,11 +16,6 @@ mod writing;
 
 use crate::clocks::{Known, on_clocks, read_clocks, read_once, recorders_of_audit};
 use crate::dated::{Dated, Dating};
-use crate::files::Sides;
-use crate::order::check_order;
-use crate::owned::beside;
-use crate::pipes::Pipe;
-use crate::progress::Progress;
 use crate::script::tell_ended;
 use cuts::Cuts;
 use hints::tell_odd;
@@ -30,6 +25,7 @@ use sr_advice::letter_of;
 use sr_audit::Spans;
 use sr_capture_audit::Summary;
 use sr_capture_script::{Inlet, ScriptFault};
+use sr_command_io::{Ended, Pipe, Progress, Sides, beside, check_order};
 use sr_dates::Moment;
 use sr_options::{AuditTask, Format, Paths, Times};
 use sr_slots::Keys;
@@ -44,21 +40,6 @@ use writing::write_all;
 
 /// The exit status of a fault of a file, a write or memory.
 const RUN_FAILED: u8 = 1;
-
-/// What ended an audit early.
-#[derive(Clone, Copy)]
-pub enum Ended {
-    /// A capture could not be opened, of which standard error has been told.
-    Unopened,
-    /// This fault.
-    By(ScriptFault),
-}
-
-impl From<ScriptFault> for Ended {
-    fn from(fault: ScriptFault) -> Ended {
-        Ended::By(fault)
-    }
-}
 
 /// What ended a run over captures.
 #[derive(Clone, Copy)]

@@ -1,10 +1,10 @@
 //! What is told of a network by the figures of its captures, and how a check ends.
 
-use crate::audit::Ended;
 use crate::clocks::Known;
 use sr_audit::Sides;
 use sr_capture_audit::{Judgement, Reason, Report};
 use sr_capture_script::ScriptFault;
+use sr_command_io::Ended;
 use sr_sources::Sources;
 use sr_verdict::{Limits, Outside, Verdict, reason_in, status_of, verdicts_of};
 
@@ -31,7 +31,7 @@ fn outside_of(known: Known, are_both_ways: bool, dropped: Sides, limits: Limits)
 }
 
 /// What is told of the network.
-pub fn judge<R: AllocGlobal>(
+pub(crate) fn judge<R: AllocGlobal>(
     rt: &R,
     report: &Report,
     sources: &Sources,
@@ -48,7 +48,7 @@ pub fn judge<R: AllocGlobal>(
 }
 
 /// Says why nothing can be judged, where that is so. An error is the exit status of a check that does not pass.
-pub fn check<R: Eprint>(rt: &R, verdicts: &[Verdict]) -> Result<(), u8> {
+pub(crate) fn check<R: Eprint>(rt: &R, verdicts: &[Verdict]) -> Result<(), u8> {
     if let Some(reason) = reason_in(verdicts) {
         let _ = eprintln!(rt; "nothing to judge: {reason}");
     }

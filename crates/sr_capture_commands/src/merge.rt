@@ -1,19 +1,14 @@
 //! The subcommand `merge`: opens the captures and the file that is written, and says what was merged.
 
-use crate::audit::Ended;
 use crate::clocks::{
     Known, Unknown, Untold, recorders_of_merge, seek_clocks, tell_ahead, tell_untold,
 };
-use crate::files::{Opened, Sides, open_captures};
 use crate::meanings::plan_of;
-use crate::order::check_order;
-use crate::owned::beside;
-use crate::pipes::Pipe;
-use crate::progress::Progress;
 use crate::script::{tell_ended, tell_other};
 use sr_advice::letter_of;
 use sr_capture_merge::{Counts, merge};
 use sr_capture_script::{Captures, Inlet, ScriptFault};
+use sr_command_io::{Ended, Opened, Pipe, Progress, Sides, beside, check_order, open_captures};
 use sr_options::{LineFormat, MergeTask, Paths, Scope};
 use sr_slots::Keys;
 use std::fs::File;

@@ -1,17 +1,15 @@
 //! The page of an audit, for who has ordered the test of a network.
 
-use crate::audit::Ended;
 use crate::audit::drawn::{keep, ranked, trace};
 use crate::audit::names::read_names;
 use crate::audit::passes::{Times, read_front};
 use crate::clocks::Known;
-use crate::files::{digest_at, size_of};
 use crate::meanings::subject_of;
-use crate::owned::beside;
 use sr_audit_charts::{Kept, MAX_CARDS, SourceLine, times_of};
 use sr_audit_page::{Given, Page, rows_of, topology_of, write_page};
 use sr_capture_audit::{Network, Report, Summary};
 use sr_capture_script::ScriptFault;
+use sr_command_io::{Ended, beside, digest_at, size_of};
 use sr_dates::Moment;
 use sr_markup::Escaped;
 use sr_options::{AuditTask, PROGRAM_VERSION, Paths};
@@ -205,7 +203,7 @@ fn keep_all<R: AllocGlobal + Eprint + Files>(
 }
 
 /// Writes the page.
-pub fn print_page<R: AllocGlobal + Eprint + Files, W: Write>(
+pub(crate) fn print_page<R: AllocGlobal + Eprint + Files, W: Write>(
     rt: &R,
     task: &AuditTask<'_>,
     keys: Keys,

@@ -2,7 +2,6 @@
 
 use sr_json_lines::{JsonLines, JsonStatus};
 use sr_options::LineFormat;
-use sr_script::Report;
 use sr_session::Fault;
 use sr_text::Text;
 use std::alloc::{AllocError, Global};
@@ -25,22 +24,6 @@ impl<W> Spelled<W> {
         match format {
             LineFormat::Text => Spelled::Text(inner),
             LineFormat::Json => Spelled::Lines(JsonLines::new(alloc, inner)),
-        }
-    }
-
-    /// One of what is reported of a node, of which these are the members.
-    pub fn of_node(
-        alloc: Global,
-        format: LineFormat,
-        report: Report,
-        station: Text,
-        inner: W,
-    ) -> Spelled<W> {
-        match (format, report) {
-            (LineFormat::Json, Report::Status | Report::Tally) => {
-                Spelled::Status(JsonStatus::new(alloc, inner, station))
-            }
-            (format, _) => Spelled::new(alloc, format, inner),
         }
     }
 

@@ -1,15 +1,12 @@
 //! The clocks of the recorders of two captures: read ahead of all else, by passes of their own.
 
-use crate::audit::Ended;
-use crate::files::{Opened, open_captures};
 use crate::meanings::network_of;
-use crate::owned::{beside, both};
-use crate::progress::Progress;
 use crate::script::tell_other;
 use sr_advice::letter_of;
 use sr_capture_audit::{Format, Judgement, Reason, clocks_between, delays_by, print_clocks};
 use sr_capture_script::{Captures, Inlet, Options, ScriptFault};
 use sr_clocks::{Clocks, Line};
+use sr_command_io::{Ended, Opened, Progress, beside, both, open_captures};
 use sr_options::{AuditTask, MergeTask, Network, Paths, Ports, ScriptTask, Shift};
 use std::alloc::Global;
 use std::fmt;
@@ -24,7 +21,7 @@ const LEAST_APART: u128 = 20_000_000;
 
 /// What is known of the clocks.
 #[derive(Clone, Copy)]
-pub enum Known {
+pub(crate) enum Known {
     /// Nothing: the times are taken as they are.
     Nothing,
     /// That of B is so far ahead in the middle of its recording, and its times are taken back by that.
@@ -35,7 +32,7 @@ pub enum Known {
 
 /// Why times are taken as they are.
 #[derive(Clone, Copy)]
-pub enum Untold<'a> {
+pub(crate) enum Untold<'a> {
     /// The frames that both recorders saw don't tell of one offset.
     By(Judgement),
     /// A capture is none of a file, and is gone once it was read.
@@ -63,7 +60,7 @@ impl fmt::Display for Untold<'_> {
 
 /// The captures whose clocks are asked for.
 #[derive(Clone, Copy)]
-pub struct Recorders<'a> {
+pub(crate) struct Recorders<'a> {
     a: Option<Paths<'a>>,
     b: Option<Paths<'a>>,
     options: Options,
@@ -72,7 +69,7 @@ pub struct Recorders<'a> {
 }
 
 /// The captures of an audit.
-pub fn recorders_of_audit<'a>(task: &AuditTask<'a>) -> Recorders<'a> {
+pub(crate) fn recorders_of_audit<'a>(task: &AuditTask<'a>) -> Recorders<'a> {
     let b = match task.ports {
         Ports::Two => task.b,
         Ports::Mirror => None,
@@ -87,7 +84,7 @@ pub fn recorders_of_audit<'a>(task: &AuditTask<'a>) -> Recorders<'a> {
 }
 
 /// The captures of a merge.
-pub fn recorders_of_merge<'a>(task: &MergeTask<'a>) -> Recorders<'a> {
+pub(crate) fn recorders_of_merge<'a>(task: &MergeTask<'a>) -> Recorders<'a> {
     Recorders {
         a: task.a,
         b: task.b,
@@ -98,7 +95,7 @@ pub fn recorders_of_merge<'a>(task: &MergeTask<'a>) -> Recorders<'a> {
 }
 
 /// The captures of a script. Nothing tells of the clock of C.
-pub fn recorders_of_script<'a>(task: &ScriptTask<'a>) -> Recorders<'a> {
+pub(crate) fn recorders_of_script<'a>(task: &ScriptTask<'a>) -> Recorders<'a> {
     Recorders {
         a: task.a,
         b: task.b,
@@ -168,7 +165,7 @@ impl Recorders<'_> {
 }
 
 /// What the frames that both recorders saw tell of their clocks, by a pass over each capture.
-pub fn read_clocks<R: AllocGlobal + Eprint + Files>(
+pub(crate) fn read_clocks<R: AllocGlobal + Eprint + Files>(
     rt: &R,
     recorders: &Recorders<'_>,
     progress: Progress,
@@ -185,7 +182,7 @@ pub fn read_clocks<R: AllocGlobal + Eprint + Files>(
 }
 
 /// A task on the clocks that are known. Where the recordings are more than 146 years apart, it stays as it is.
-pub fn on_clocks<'a>(task: &AuditTask<'a>, known: Known) -> AuditTask<'a> {
+pub(crate) fn on_clocks<'a>(task: &AuditTask<'a>, known: Known) -> AuditTask<'a> {
     let (mut own, mut options) = (*task, task.options);
     if let Known::Ahead(_, ahead, _) = known {
         if let Some(delays) = delays_by(options.delays, ahead) {
@@ -207,7 +204,7 @@ fn is_read_once<R: Files>(rt: &R, path: &str) -> bool {
 }
 
 /// The path of a file of a capture that can be read once alone, if there is one.
-pub fn read_once<'a, R: Files>(rt: &R, paths: Option<Paths<'a>>) -> Option<&'a str> {
+pub(crate) fn read_once<'a, R: Files>(rt: &R, paths: Option<Paths<'a>>) -> Option<&'a str> {
     let paths = paths?;
     for place in 0..paths.count {
         let path = paths.path(place)?;
@@ -220,7 +217,7 @@ pub fn read_once<'a, R: Files>(rt: &R, paths: Option<Paths<'a>>) -> Option<&'a s
 
 /// Why clocks that were asked for are not known.
 #[derive(Clone, Copy, PartialEq, Eq)]
-pub enum Unknown {
+pub(crate) enum Unknown {
     /// They can't be told, which standard error is told of.
     Untold,
     /// For another fault, which it is told of too.
@@ -228,7 +225,7 @@ pub enum Unknown {
 }
 
 /// Says that times are taken as they are, and why. Where somebody asked for more, that is a fault.
-pub fn tell_untold<R: Eprint>(rt: &R, shift: Shift, untold: Untold<'_>) -> Result<(), Unknown> {
+pub(crate) fn tell_untold<R: Eprint>(rt: &R, shift: Shift, untold: Untold<'_>) -> Result<(), Unknown> {
     if shift == Shift::Auto {
         let _ = eprintln!(rt; "fault clocks");
         let _ = eprintln!(rt; "{untold}; --shift none takes the times as they are");
@@ -239,7 +236,7 @@ pub fn tell_untold<R: Eprint>(rt: &R, shift: Shift, untold: Untold<'_>) -> Resul
 }
 
 /// Says how far the clock of B is ahead, as an audit does.
-pub fn tell_ahead<R: AllocGlobal + Eprint>(
+pub(crate) fn tell_ahead<R: AllocGlobal + Eprint>(
     rt: &R,
     line: Line,
     ahead: i128,
@@ -318,7 +315,7 @@ fn read_open_clocks<R: AllocGlobal + Eprint + Files>(
 
 /// What is known of the clocks of captures that are read again behind it. Where two offsets fit, or nothing is known though somebody asked,
 /// that is told.
-pub fn seek_clocks<R: AllocGlobal + Eprint + Files>(
+pub(crate) fn seek_clocks<R: AllocGlobal + Eprint + Files>(
     rt: &R,
     recorders: &Recorders<'_>,
     progress: Progress,
