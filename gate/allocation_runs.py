@@ -58,7 +58,7 @@ def flaw(ran, whole, has_lines):
         return "output without a command line" if ran.out else None
     if ran.status != 1:
         return f"status {ran.status}"
-    if not re.search(rb"^fault (\S+ )?memory\b", ran.err, re.M):
+    if not re.search(rb'^(fault (\S+ )?memory\b|\{"line":"fault",.*"fault":"memory",)', ran.err, re.M):
         return f"told as {ran.err!r}"
     front = re.sub(rb"(^|\n)# fault \S+ memory( \d+)?\n$", rb"\1", ran.out)
     if not whole.out.startswith(front):

@@ -204,8 +204,9 @@ fn refuse_read_once<R: Eprint + Files>(
         return Ok(());
     };
     let letter = letter_of(inlet);
-    let _ = eprintln!(rt; "fault {letter} open 0");
-    let _ = eprintln!(rt; "{path} is no file, and an audit reads its captures more than once");
+    let _ = eprintln!(rt;
+        "fault {letter} open 0\n{path} is no file, and an audit reads its captures more than once"
+    );
     Err(RUN_FAILED)
 }
 

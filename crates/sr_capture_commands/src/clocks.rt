@@ -7,7 +7,7 @@ use sr_capture_audit::{Format, Judgement, Reason, clocks_between, delays_by, pri
 use sr_capture_script::{Captures, Inlet, Options, ScriptFault};
 use sr_clocks::{Clocks, Line};
 use sr_command_io::{Ended, Opened, Progress, beside, both, open_captures};
-use sr_options::{AuditTask, MergeTask, Network, Paths, Ports, ScriptTask, Shift};
+use sr_options::{AuditTask, LineFormat, MergeTask, Network, Paths, Ports, ScriptTask, Shift};
 use std::alloc::Global;
 use std::fmt;
 use std::io::BufRead;
@@ -225,25 +225,33 @@ pub(crate) enum Unknown {
 }
 
 /// Says that times are taken as they are, and why. Where somebody asked for more, that is a fault.
-pub(crate) fn tell_untold<R: Eprint>(rt: &R, shift: Shift, untold: Untold<'_>) -> Result<(), Unknown> {
+pub(crate) fn tell_untold<R: Eprint>(
+    rt: &R,
+    shift: Shift,
+    untold: Untold<'_>,
+) -> Result<(), Unknown> {
     if shift == Shift::Auto {
-        let _ = eprintln!(rt; "fault clocks");
-        let _ = eprintln!(rt; "{untold}; --shift none takes the times as they are");
+        let _ = eprintln!(rt; "fault clocks\n{untold}; --shift none takes the times as they are");
         return Err(Unknown::Untold);
     }
     let _ = eprintln!(rt; "the times of B are taken as they are: {untold}");
     Ok(())
 }
 
-/// Says how far the clock of B is ahead, as an audit does.
+/// Says how far the clock of B is ahead, as an audit of this format does.
 pub(crate) fn tell_ahead<R: AllocGlobal + Eprint>(
     rt: &R,
+    format: LineFormat,
     line: Line,
     ahead: i128,
     pairs: usize,
 ) -> Result<(), Unknown> {
+    let format = match format {
+        LineFormat::Text => Format::Text,
+        LineFormat::Json => Format::Json,
+    };
     let mut text = Vec::new(rt.alloc());
-    if print_clocks(&mut text, Format::Text, line, ahead, pairs).is_err() {
+    if print_clocks(&mut text, format, line, ahead, pairs).is_err() {
         tell_other(rt, ScriptFault::NoMemory, false);
         return Err(Unknown::Fault);
     }

@@ -11,6 +11,7 @@ use sr_capture_script::{Captures, Inlet, ScriptFault};
 use sr_command_io::{Ended, Opened, Pipe, Progress, Sides, beside, check_order, open_captures};
 use sr_options::{LineFormat, MergeTask, Paths, Scope};
 use sr_slots::Keys;
+use std::fmt;
 use std::fs::File;
 use std::io::{self, BufRead, BufWriter, Write};
 use std::os::unix::fs::MetadataExt;
@@ -55,8 +56,7 @@ fn is_capture<R: Eprint + Files>(
         return false;
     }
     let letter = letter_of(inlet);
-    let _ = eprintln!(rt; "fault write");
-    let _ = eprintln!(rt; "{out} is the capture of {letter}");
+    let _ = eprintln!(rt; "fault write\n{out} is the capture of {letter}");
     true
 }
 
@@ -106,28 +106,41 @@ fn tell_odd<R: Eprint>(rt: &R, counts: &Counts) {
     }
 }
 
+/// What was merged, as it is shown as an object.
+#[derive(Clone, Copy)]
+struct Merged<'a>(&'a Counts);
+
+impl fmt::Display for Merged<'_> {
+    fn fmt<W: fmt::Write>(&self, f: &mut fmt::Formatter<W>) -> fmt::Result {
+        let Counts {
+            packets,
+            both,
+            a,
+            b,
+            astray,
+            unnumbered,
+            open,
+            written,
+            cut,
+            long,
+            untold,
+        } = *self.0;
+        write!(
+            f,
+            "{{\"line\":\"merged\",\"packets\":{packets},\"both\":{both},\"only_a\":{a},\"only_b\":{b},\"wrong_lan\":{astray}"
+        )?;
+        write!(
+            f,
+            ",\"unnumbered\":{unnumbered},\"unknown\":{open},\"written\":{written},\"cut\":{cut},\"long\":{long}"
+        )?;
+        write!(f, ",\"beyond_1024\":{untold}}}")
+    }
+}
+
 /// Says what was merged, as an object.
 fn tell_object<R: Eprint>(rt: &R, counts: &Counts) {
-    let Counts {
-        packets,
-        both,
-        a,
-        b,
-        astray,
-        unnumbered,
-        open,
-        written,
-        cut,
-        long,
-        untold,
-    } = *counts;
-    let _ = eprint!(rt;
-        "{{\"line\":\"merged\",\"packets\":{packets},\"both\":{both},\"only_a\":{a},\"only_b\":{b},\"wrong_lan\":{astray}"
-    );
-    let _ = eprint!(rt;
-        ",\"unnumbered\":{unnumbered},\"unknown\":{open},\"written\":{written},\"cut\":{cut},\"long\":{long}"
-    );
-    let _ = eprintln!(rt; ",\"beyond_1024\":{untold}}}");
+    let merged = Merged(counts);
+    let _ = eprint!(rt; "{merged}\n");
 }
 
 /// Says what was merged.
@@ -220,7 +233,7 @@ fn on_known_clocks<'a, R: AllocGlobal + Eprint + Files>(
     };
     match task.by_clock_of_a(ahead) {
         Some(own) => {
-            tell_ahead(rt, line, ahead, pairs)?;
+            tell_ahead(rt, task.format, line, ahead, pairs)?;
             Ok(own)
         }
         None => {
@@ -257,8 +270,7 @@ pub fn run_merge<R: AllocGlobal + Print + Eprint + Files + RandomSource>(
         Ok((file, captures)) => merge_into(rt, task, keys, captures, file),
         Err(_) => {
             let out = task.out;
-            let _ = eprintln!(rt; "fault write");
-            let _ = eprintln!(rt; "{out}: it can't be written");
+            let _ = eprintln!(rt; "fault write\n{out}: it can't be written");
             Err(())
         }
     }

@@ -5,7 +5,10 @@ use crate::clocks::{
 };
 use sr_advice::{FileFault, letter_of};
 use sr_capture_script::{Inlet, ScriptFault, script};
-use sr_command_io::{Opened, Pipe, Progress, Sides, Spelled, Surveyed, beside, check_order, open_file, shown_of, tell_file};
+use sr_command_io::{
+    Opened, Pipe, Progress, Sides, Spelled, Surveyed, beside, check_order, open_file, shown_of,
+    tell_file,
+};
 use sr_options::{LineFormat, Paths, ScriptTask};
 use sr_pcapng::Wanted;
 use std::alloc::AllocError;
@@ -70,8 +73,9 @@ pub(crate) fn tell_other<R: Eprint>(rt: &R, fault: ScriptFault, is_closed: bool)
         }
         ScriptFault::Write | ScriptFault::Endless => {
             if !is_closed {
-                let _ = eprintln!(rt; "fault write");
-                let _ = eprintln!(rt; "the output can't be written: the disk may be full");
+                let _ = eprintln!(rt;
+                    "fault write\nthe output can't be written: the disk may be full"
+                );
             }
         }
     }
@@ -136,7 +140,7 @@ fn on_known_clocks<'a, R: AllocGlobal + Eprint + Files>(
     };
     match task.by_clock_of_a(ahead) {
         Some(own) => {
-            tell_ahead(rt, line, ahead, pairs)?;
+            tell_ahead(rt, task.format, line, ahead, pairs)?;
             Ok(own)
         }
         None => {

@@ -113,14 +113,12 @@ impl<R: Eprint> Telling for Teller<'_, R> {
                 let letter = letter_of(inlet);
                 let path = path_of(paths);
                 let unopened = Unopened { path, wanted, kind };
-                let _ = eprintln!(self.rt; "fault {letter} open 0");
-                let _ = eprintln!(self.rt; "{unopened}");
+                let _ = eprintln!(self.rt; "fault {letter} open 0\n{unopened}");
             }
             End::Broken(fault) => {
                 let told = FileFault { inlet, fault };
                 let reason = FileReason(fault.reason);
-                let _ = eprintln!(self.rt; "{told}");
-                let _ = eprintln!(self.rt; "{reason}");
+                let _ = eprintln!(self.rt; "{told}\n{reason}");
             }
         }
     }
@@ -133,15 +131,13 @@ fn tell_stopped<R: Eprint>(rt: &R, task: &WatchTask<'_>, fault: WatchFault, is_c
         WatchFault::NoMemory => tell_other(rt, ScriptFault::NoMemory, is_closed),
         WatchFault::Metrics => {
             let path = task.metrics.unwrap_or("");
-            let _ = eprintln!(rt; "fault write");
-            let _ = eprintln!(rt; "{path}: the metrics can't be written");
+            let _ = eprintln!(rt; "fault write\n{path}: the metrics can't be written");
         }
         WatchFault::Thread => {
             let _ = eprintln!(rt; "fault thread");
         }
         WatchFault::Clock => {
-            let _ = eprintln!(rt; "fault read");
-            let _ = eprintln!(rt; "the clock can't be read");
+            let _ = eprintln!(rt; "fault read\nthe clock can't be read");
         }
     }
 }

@@ -2,16 +2,19 @@
 #![tactic(auto)]
 
 mod arguments;
+mod host;
 mod kept;
 mod meanings;
 mod running;
 mod stations;
 
 use arguments::tell_unread;
+use host::Host;
+use meanings::told_format_of;
 use running::{play, play_threaded, run_node};
 use sr_capture_commands::{run_audit, run_merge, run_script, run_watch};
 use sr_command_io::Progress;
-use sr_options::{Refused, Task, Words, task_of};
+use sr_options::{LineFormat, Refused, Task, Words, task_of};
 use sr_script::Report;
 use sr_watch_live::Job;
 use std::io::IsTerminal;
@@ -72,6 +75,22 @@ fn obey<
     outcome.map_err(|()| RUN_FAILED)
 }
 
+/// Does what the command line asks for, on a runtime whose standard error is spelled as it says. Where it has objects, no progress is told.
+fn obey_spelled<
+    R: AllocGlobal + Print + Eprint + Input + Files + RandomSource + Threads + Wait + Sync + Clock,
+    S: Fn(Job) -> bool,
+>(rt: &R, task: &Task<'_>, progress: Progress, starts: &S) -> Result<(), u8>
+    requires { S.IsAlwaysCallable starts.now }
+{
+    let format = told_format_of(task);
+    let progress = match format {
+        LineFormat::Text => progress,
+        LineFormat::Json => Progress::Silent,
+    };
+    let host = Host::new(rt, format);
+    obey(&host, task, progress, starts)
+}
+
 /// Reads the command line and does what it asks for. An error is the exit status; why is on standard error.
 fn start<
     R: AllocGlobal
@@ -101,7 +120,7 @@ fn start<
     };
     let known = Words::new();
     match task_of(rt.alloc(), &known, words.as_slice()) {
-        Ok(task) => obey(rt, &task, progress, starts),
+        Ok(task) => obey_spelled(rt, &task, progress, starts),
         Err(refused) => tell_refused(rt, refused),
     }
 }

@@ -2,7 +2,9 @@
 
 use sr_dup_table::Width;
 use sr_node::{Mode, Settings};
-use sr_options::{NodeOptions, NodeTask, PlantTask, Shape, ThreadsTask, Window};
+use sr_options::{
+    LineFormat, NodeOptions, NodeTask, PlantFormat, PlantTask, Shape, Task, ThreadsTask, Window,
+};
 use sr_plant_script::{Joins, PlantSetup};
 use sr_script::Setup;
 use sr_slots::Keys;
@@ -60,5 +62,26 @@ pub fn threads_of(task: &ThreadsTask) -> ThreadedSetup {
         },
         nodes: task.nodes.count,
         settings: settings_of(task.options),
+    }
+}
+
+/// How what is told on standard error is spelled: as objects where standard output has them, or what was merged is one.
+pub fn told_format_of(task: &Task<'_>) -> LineFormat {
+    match task {
+        Task::Replay(task) => task.format,
+        Task::Status(task) => task.format,
+        Task::Tally(task) => task.format,
+        Task::Script(task) => task.format,
+        Task::Audit(task) => match task.format {
+            sr_options::Format::Json => LineFormat::Json,
+            _ => LineFormat::Text,
+        },
+        Task::Merge(task) => task.format,
+        Task::Watch(task) => task.format,
+        Task::Plant(task) => match task.format {
+            PlantFormat::Lines(format) => format,
+            PlantFormat::Svg => LineFormat::Text,
+        },
+        Task::Threads(task) => task.format,
     }
 }

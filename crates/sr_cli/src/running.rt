@@ -1,5 +1,5 @@
-//! Runs of a script on standard input, on a node or on a plant. What ends one early is told on standard error: its first line is
-//! the fault, and the second says what is wrong and what to do.
+//! Runs of a script on standard input, on a node or on a plant. What ends one early is told on standard error at once: its first line
+//! is the fault, and the second says what is wrong and what to do.
 
 use crate::kept::{Kept, MAX_KEPT};
 use crate::meanings::{plant_of, setup_of, threads_of};
@@ -76,26 +76,34 @@ fn last_line(octets: &[u8]) -> &[u8] {
     line
 }
 
-/// Says what is wrong with a line of a script.
+/// Says that a line is none of a script, and what is wrong with it.
 fn tell_line<R: Eprint>(rt: &R, number: u64, line: &[u8], kind: ScriptKind) {
-    if let Some(found) = found_in(line, kind) {
-        let column = found.at.saturating_add(1);
-        let flaw = found.flaw;
-        let _ = eprintln!(rt; "line {number}, column {column}: {flaw}");
-    }
+    let fault = Fault {
+        line: number,
+        kind: FaultKind::Line,
+    };
+    let _ = match found_in(line, kind) {
+        Some(found) => {
+            let column = found.at.saturating_add(1);
+            let flaw = found.flaw;
+            eprintln!(rt; "{fault}\nline {number}, column {column}: {flaw}")
+        }
+        None => eprintln!(rt; "{fault}"),
+    };
 }
 
-/// Says what is wrong with a line that is too long, of which these octets were taken, or behind the last that a script has.
-fn tell_long<R: Eprint>(rt: &R, number: u64, line: &[u8]) {
+/// Says that a line is too long, of which these octets were taken, or behind the last that a script has.
+fn tell_long<R: Eprint>(rt: &R, fault: Fault, line: &[u8]) {
+    let number = fault.line;
     let _ = if number > MAX_LINES {
         eprintln!(rt;
-            "a script has at most {MAX_LINES} lines: take a part by --from and --to of seamless script"
+            "{fault}\na script has at most {MAX_LINES} lines: take a part by --from and --to of seamless script"
         )
     } else if is_capture(line) {
         let flaw = Flaw::Capture;
-        eprintln!(rt; "line {number}, column 1: {flaw}")
+        eprintln!(rt; "{fault}\nline {number}, column 1: {flaw}")
     } else {
-        eprintln!(rt; "line {number}: a line has at most 8000 octets")
+        eprintln!(rt; "{fault}\nline {number}: a line has at most 8000 octets")
     };
 }
 
@@ -155,17 +163,18 @@ fn again_of<R: Read + Drop>(
     }
 }
 
-/// Says what ended a run, but where nobody reads any more what it writes. True where a line is to be explained. These octets of
-/// the line that ended it were taken.
+/// Says what ended a run, but where nobody reads any more what it writes. True where a line did that is none of a script: that is
+/// told with what is wrong with it, by `tell_line`. These octets of the line that ended it were taken.
 fn tell<R: Eprint>(rt: &R, fault: Fault, is_closed: bool, taken: &[u8]) -> bool {
-    if fault.kind == FaultKind::Write && is_closed {
-        return false;
+    match fault.kind {
+        FaultKind::Line => return true,
+        FaultKind::Write if is_closed => {}
+        FaultKind::Long => tell_long(rt, fault, taken),
+        _ => {
+            let _ = eprintln!(rt; "{fault}");
+        }
     }
-    let _ = eprintln!(rt; "{fault}");
-    if fault.kind == FaultKind::Long {
-        tell_long(rt, fault.line, taken);
-    }
-    fault.kind == FaultKind::Line
+    false
 }
 
 /// Says what is wrong with the line that ended a run: the one that was taken last, if that is none of a script, else the next.
@@ -297,6 +306,8 @@ pub fn play<R: AllocGlobal + Print + Eprint + Input>(rt: &R, task: &PlantTask) -
             writer.mute();
             let taken = run_plant(alloc, &setup, &mut again, &mut writer);
             tell_ended(rt, fault.line, &ends, taken, ScriptKind::Network);
+        } else {
+            let _ = eprintln!(rt; "{fault}");
         }
     }
     Err(())

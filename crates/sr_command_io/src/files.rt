@@ -11,6 +11,7 @@ use sr_capture_script::{Captures, Inlet, Options};
 use sr_options::Paths;
 use sr_page::digest_of;
 use sr_pcapng::Wanted;
+use std::fmt;
 use std::fs::File;
 use std::io::{self, BufRead, BufReader, Read};
 use std::rt::Files;
@@ -54,8 +55,7 @@ fn open_path<R: Eprint + Files>(
                 wanted,
                 kind: error.kind(),
             };
-            let _ = eprintln!(rt; "fault {letter} open 0");
-            let _ = eprintln!(rt; "{unopened}");
+            let _ = eprintln!(rt; "fault {letter} open 0\n{unopened}");
             Err("open")
         }
     }
@@ -71,8 +71,7 @@ fn look_at<R: Eprint + Files>(
     part: &mut Part<R::File>,
 ) -> Result<(), &'static str> {
     if part.look().is_err() {
-        let _ = eprintln!(rt; "fault {letter} read 0");
-        let _ = eprintln!(rt; "{path}: the file can not be read");
+        let _ = eprintln!(rt; "fault {letter} read 0\n{path}: the file can not be read");
         return Err("read");
     }
     let Some(first) = joined.first_head() else {
@@ -81,8 +80,7 @@ fn look_at<R: Eprint + Files>(
     match flaw_of(first, part.head()) {
         None => Ok(()),
         Some(flaw) => {
-            let _ = eprintln!(rt; "fault {letter} format 0");
-            let _ = eprintln!(rt; "{path}: {flaw}");
+            let _ = eprintln!(rt; "fault {letter} format 0\n{path}: {flaw}");
             Err("format")
         }
     }
@@ -111,8 +109,7 @@ fn check_interface<R: Eprint, F: Read>(
         return Ok(());
     }
     let unknown = NoInterface { path, number };
-    let _ = eprintln!(rt; "fault {letter} format 0");
-    let _ = eprintln!(rt; "{unknown}");
+    let _ = eprintln!(rt; "fault {letter} format 0\n{unknown}");
     Err("format")
 }
 
@@ -346,6 +343,27 @@ pub fn shown_of<R: Files>(
     FileFault { inlet, fault }
 }
 
+/// What is wrong with a capture, or what its file has to be done to, behind the name of that file where there are several.
+#[derive(Clone, Copy)]
+struct Explained<'a> {
+    name: Option<&'a str>,
+    compression: Option<&'static str>,
+    reason: Reason,
+}
+
+impl fmt::Display for Explained<'_> {
+    fn fmt<W: fmt::Write>(&self, f: &mut fmt::Formatter<W>) -> fmt::Result {
+        if let Some(path) = self.name {
+            write!(f, "{path}: ")?;
+        }
+        let reason = FileReason(self.reason);
+        match self.compression {
+            Some(compression) => f.write_str(compression),
+            None => write!(f, "{reason}"),
+        }
+    }
+}
+
 /// Says what is wrong with the files of an inlet: a line with the inlet, the word and the octet, and one that explains it.
 pub fn tell_file<R: Eprint + Files>(
     rt: &R,
@@ -354,16 +372,12 @@ pub fn tell_file<R: Eprint + Files>(
     fault: CaptureFault,
 ) {
     let (fault, name) = told_of(rt, paths, fault);
-    let told = FileFault { inlet, fault };
-    let _ = eprintln!(rt; "{told}");
-    if let Some(path) = name {
-        let _ = eprint!(rt; "{path}: ");
-    }
     let path = name.or(paths.and_then(|paths| paths.path(0)));
-    if let Some(compression) = compression_in(rt, path, fault) {
-        let _ = eprintln!(rt; "{compression}");
-    } else {
-        let reason = FileReason(fault.reason);
-        let _ = eprintln!(rt; "{reason}");
-    }
+    let told = FileFault { inlet, fault };
+    let explained = Explained {
+        name,
+        compression: compression_in(rt, path, fault),
+        reason: fault.reason,
+    };
+    let _ = eprintln!(rt; "{told}\n{explained}");
 }

@@ -62,9 +62,8 @@ fn compare<R: Eprint>(
 ) -> Result<(), ()> {
     let ((early, ahead), (late, path)) = (before, behind);
     if late.first < early.first {
-        let _ = eprintln!(rt; "fault {letter} order 0");
         let _ = eprintln!(rt;
-            "{path} begins before {ahead}, which is named ahead of it: name files in the order of their times"
+            "fault {letter} order 0\n{path} begins before {ahead}, which is named ahead of it: name files in the order of their times"
         );
         return Err(());
     }

@@ -1,3 +1,4 @@
+pub mod Faults
 pub mod Lacks
 pub mod Objects
 pub mod StatusObjects

@@ -1,7 +1,7 @@
 //! A writer that takes the lines of a status and writes one object for all.
 
-ghost use Rattle.std.specs.Prelude.{◌≡◌};
-ghost use Rattle.sr_json_lines.specs.Lacks.{fault_by};
+ghost use Rattle.std.specs.Prelude.{◌≡◌, false, is_err};
+ghost use Rattle.sr_json_lines.specs.Lacks.{fault_by, status_has_lack};
 
 use crate::elements::{
     append_left_out, append_node_down, append_node_element, append_port, append_refusal,
@@ -89,7 +89,9 @@ pub struct JsonStatus<W> {
 
 impl<W> JsonStatus<W> {
     /// A writer that writes to this one. The object begins with these members.
-    pub fn new(alloc: Global, inner: W, station: Text) -> JsonStatus<W> {
+    pub fn new(alloc: Global, inner: W, station: Text) -> JsonStatus<W>
+        ensures { status_has_lack result ≡ false }
+    {
         JsonStatus {
             inner,
             line: Vec::new(alloc),
@@ -105,7 +107,9 @@ impl<W> JsonStatus<W> {
     }
 
     /// Whether all could be spelled. An error: an allocation failed.
-    pub fn spelt(&self) -> Result<(), AllocError> {
+    pub fn spelt(&self) -> Result<(), AllocError>
+        ensures { is_err result ≡ status_has_lack self.now }
+    {
         match self.lack {
             Some(lack) => Err(lack),
             None => Ok(()),
@@ -114,7 +118,7 @@ impl<W> JsonStatus<W> {
 
     /// What ended a run that wrote to it: where an allocation failed here, that, and not the write.
     pub fn fault_of(&self, fault: Fault) -> Fault
-        ensures { result ≡ fault_by self.now.lack fault }
+        ensures { result ≡ fault_by (status_has_lack self.now) fault }
     {
         fault_by(self.lack, fault)
     }

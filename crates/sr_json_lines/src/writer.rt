@@ -1,7 +1,7 @@
 //! A writer that takes lines and writes an object for each.
 
-ghost use Rattle.std.specs.Prelude.{◌≡◌};
-ghost use Rattle.sr_json_lines.specs.Lacks.{fault_by};
+ghost use Rattle.std.specs.Prelude.{◌≡◌, false, is_err};
+ghost use Rattle.sr_json_lines.specs.Lacks.{fault_by, lines_have_lack};
 
 use crate::events::append_line_object;
 use crate::lack::fault_by;
@@ -27,7 +27,9 @@ pub struct JsonLines<W> {
 
 impl<W> JsonLines<W> {
     /// A writer that writes to this one.
-    pub fn new(alloc: Global, inner: W) -> JsonLines<W> {
+    pub fn new(alloc: Global, inner: W) -> JsonLines<W>
+        ensures { lines_have_lack result ≡ false }
+    {
         JsonLines {
             inner,
             line: Vec::new(alloc),
@@ -42,7 +44,9 @@ impl<W> JsonLines<W> {
     }
 
     /// Whether all could be spelled. An error: an allocation failed.
-    pub fn spelt(&self) -> Result<(), AllocError> {
+    pub fn spelt(&self) -> Result<(), AllocError>
+        ensures { is_err result ≡ lines_have_lack self.now }
+    {
         match self.lack {
             Some(lack) => Err(lack),
             None => Ok(()),
@@ -51,7 +55,7 @@ impl<W> JsonLines<W> {
 
     /// What ended a run that wrote to it: where an allocation failed here, that, and not the write.
     pub fn fault_of(&self, fault: Fault) -> Fault
-        ensures { result ≡ fault_by self.now.lack fault }
+        ensures { result ≡ fault_by (lines_have_lack self.now) fault }
     {
         fault_by(self.lack, fault)
     }
