@@ -10,7 +10,7 @@ use Rattle.std.proofs.lemmas.List.{get_or_past}
 use Rattle.hex.specs.Hex.{decode_of, decode_pairs, hex_digit_value, is_hex_digit}
 use Rattle.hex.proofs.HexLemmas.{decode_of-even, decode_of-ok}
 use Rattle.sr_hex.specs.Lanes.{HasLanes, IsSmallFront}
-use Rattle.sr_hex.specs.Values.{value_of, octet_of, AreSpelled, AreDigits, AreKept, AreSmall, IsDigitFront, IsEndAt}
+use Rattle.sr_hex.specs.Values.{value_of, octet_of, AreSpelled, AreDigits, AreKept, AreSmall, IsDigitFront, IsEndAt, IsReadTo, IsReadUpTo}
 use Rattle.sr_hex.proofs.LaneLemmas.{joined, every_below}
 use Rattle.sr_hex.proofs.Digits.{digit_small, pair_spelled}
 
@@ -205,18 +205,35 @@ digits_on s from to before here k low high = elim (cases_lt k from) [
   | inr g ↦ here k g high
 ]
 
-pub front_ends : (s : List ℕ) (from end : ℕ) → Octets s → from + 32 ≤ length s → AreDigits s 0 from → IsEndAt s from end → IsDigitFront s end
-front_ends s from end fits inside before here = record {
+-- a step of sixteen octets that meets the end of the digits
+pub step_ends : (s new : List ℕ) (from end : ℕ) → 2 * from + 32 ≤ length s → from + 16 ≤ length new → AreSpelled s new from (from + 16)
+    → IsEndAt s (2 * from) end → IsReadUpTo s new from end
+step_ends s new from end inside room spelled here = record {
+  past = here.past;
   within = omega (arith, here.near);
-  digits = front_digits s end fits (digits_on s from end before here.digits);
-  end = large_is_none (slice_index s end) (fits end) here.none;
+  digits = here.digits;
+  none = here.none;
+  room = omega (arith, here.near);
+  spelled = λ i low high. spelled i low (omega (arith, here.near));
 }
 
-pub spelled_on : (s old new : List ℕ) (at : ℕ) → AreSpelled s old 0 at → AreSpelled s new at (at + 16) → AreKept old new at → AreSpelled s new 0 (at + 16)
-spelled_on s old new at before here kept i low high = elim (cases_lt i at) [
-  | inl l ↦ kept i l ∙ before i low l
-  | inr g ↦ here i g high
-]
+-- what was read before the step that met the end
+pub ends_behind : (s a b c : List ℕ) (from next end : ℕ) → from ≤ next → IsReadTo s a b from next → AreKept b c next → IsReadUpTo s c next end
+    → IsReadUpTo s c from end
+ends_behind s a b c from next end le one kept here = record {
+  past = omega (arith, here.past);
+  within = here.within;
+  digits = λ k low high. elim (cases_lt k (2 * next)) [
+    | inl l ↦ one.digits k low l
+    | inr g ↦ here.digits k g high
+  ];
+  none = here.none;
+  room = here.room;
+  spelled = λ i low high. elim (cases_lt i next) [
+    | inl l ↦ kept i l ∙ one.spelled i low l
+    | inr g ↦ here.spelled i g high
+  ];
+}
 
 -- so many octets are what the digits at the front spell
 front_spelled : (s out : List ℕ) (m : ℕ) → Octets s → 2 * m ≤ length s → m ≤ length out → AreDigits s 0 (2 * m) → AreSpelled s out 0 m
@@ -238,15 +255,17 @@ front_spelled s out m fits inside room digits spelled =
       | inr g ↦ let past = get_or_past (take n s) k 0 g in omega (arith, past)
     ]
 
--- what was read up to the end is what stands before it
-pub end_spelled : (s old new : List ℕ) (at end : ℕ) → Octets s → 2 * at + 32 ≤ length s → at + 16 ≤ length new → AreDigits s 0 (2 * at)
-    → AreSpelled s old 0 at → AreSpelled s new at (at + 16) → AreKept old new at → IsEndAt s (2 * at) end
-    → decode_of (take (2 * (end / 2)) s) ≡ Ok (take (end / 2) new)
-end_spelled s old new at end fits inside room digits before here kept ends =
-    let all = digits_on s (2 * at) end digits ends.digits in
-    let spelled = spelled_on s old new at before here kept in
-    front_spelled s new (end / 2) fits (omega (arith, ends.near)) (omega (arith, ends.near)) (λ k low high. all k low (omega arith))
-    (λ i low high. spelled i low (omega (arith, ends.near)))
+-- what was read up to the end from the first octet on
+pub front_ends : (s out : List ℕ) (end : ℕ) → Octets s → IsReadUpTo s out 0 end → IsDigitFront s end
+front_ends s out end fits read = record {
+  within = read.within;
+  digits = front_digits s end fits (λ k low high. read.digits k (omega arith) high);
+  end = large_is_none (slice_index s end) (fits end) read.none;
+}
+
+pub end_spelled : (s out : List ℕ) (end : ℕ) → Octets s → IsReadUpTo s out 0 end → decode_of (take (2 * (end / 2)) s) ≡ Ok (take (end / 2) out)
+end_spelled s out end fits read =
+    front_spelled s out (end / 2) fits (omega (arith, read.within)) read.room (λ k low high. read.digits k (omega arith) (omega arith)) read.spelled
 
 -- all codes are digits where those up to a place are, and the last sixteen
 pub all_digits : (s : List ℕ) (at last : ℕ) (good : Bool) (small : Type 0) → Octets s → last ≤ at → at < last + 16

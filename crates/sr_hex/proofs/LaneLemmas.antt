@@ -1,8 +1,9 @@
 -- What the operations on vectors of sixteen octets hold at each lane.
-use Rattle.std.proofs.Common.{◌≡◌, ℕ, zero, suc, ◌+◌, ◌-◌, ◌*◌, ◌/◌, ◌%◌, ◌^◌, ◌<◌, ◌≤◌, ◌↔◌, Bool, true, false, not, ◌&&◌, cond, eqb, ltb, leb, List, [], ◌∷◌, ◌++◌, map, length, take, drop, get_or, replicate, refl, sym, ap, ◌∙◌, inl, inr, arith, w8, Fits, eqb-true, eq-eqb, leb-false, leb-true, ltb-true, ltb-false}
+use Rattle.std.proofs.Common.{◌≡◌, ℕ, zero, suc, ◌+◌, ◌-◌, ◌*◌, ◌/◌, ◌%◌, ◌^◌, ◌<◌, ◌≤◌, ◌↔◌, Bool, true, false, not, ◌&&◌, cond, eqb, ltb, leb, List, [], ◌∷◌, ◌++◌, map, length, take, drop, get_or, replicate, refl, sym, ap, ◌∙◌, inl, inr, arith, w8, Fits, eqb-true, eq-eqb, bit_and, subst, leb-false, leb-true, ltb-true, ltb-false}
 use Rattle.std.specs.Prelude.{min, max}
-use Rattle.std.proofs.lemmas.Bool.{cases_lt, and_parts, not-true, not-false}
+use Rattle.std.proofs.lemmas.Bool.{cases_eq, cases_lt, eqb-false, and_parts, not-true, not-false}
 use Rattle.std.proofs.lemmas.List.{get_or_append_left, get_or-append_right, length-map, length-drop, get_or-drop, get_or_past, get_or-map}
+use Rattle.std.proofs.lemmas.Nat.{and_block}
 use Rattle.std.proofs.lemmas.Simd.{get_or-zip2, get_or-replicate, length-zip2, tops_compared, length-sel_l, get_or-sel_l, mask_l-mod, first_set_mask_l, below_from_Fits, get_or_wider, get_or_narrower, swz_l, SwzOk, SwzOk-from_below, Each1-from_get_or, length-swz_l, get_or-swz_l_below}
 use Rattle.std.proofs.lemmas.List.Sums.{prefix_len-le-length, prefix_len_passes, prefix_len_stops}
 use Rattle.std.specs.List.{range_with_len, prefix_len}
@@ -76,29 +77,8 @@ lanes_larger xs ys p q =
 abbrev pub at_least : ℕ → ℕ → ℕ
 at_least a b = cond (leb a b) 255 0
 
-flag : (x : ℕ) → (◌≡◌ {A = ℕ} (cond (top 7 (at_least 16 x)) 1 0) 0) ↔ (x < 16)
-flag x = go (leb 16 x) refl
-  where
-    go : (t : Bool) → leb 16 x ≡ t → (◌≡◌ {A = ℕ} (cond (top 7 (cond t 255 0)) 1 0) 0) ↔ (x < 16)
-    go true e = (λ q. absurd (omega arith), λ z. absurd (omega (arith, leb-true _ _ e)))
-    go false e = (λ _. omega (arith, leb-false _ _ e), λ _. refl)
-
-none_large : (xs : List ℕ) → (mask_l (map (top 7) (zip2 at_least (replicate (length xs) 16) xs)) ≡ 0) ↔ ((i : ℕ) → get_or xs i 0 < 16)
-none_large [] = (λ _ i. omega arith, λ _. refl)
-none_large (x ∷ xs) =
-    let r = none_large xs in
-    (λ e. elim [ zero ↦ (flag x).0 (omega arith) | suc i ↦ r.0 (omega arith) i ], λ h. omega (arith, (flag x).1 (h 0), r.1 (λ i. h (suc i))))
-
 mask_small : (f : ℕ → ℕ → ℕ) (xs ys : List ℕ) → length xs ≡ 16 → length ys ≡ 16 → mask_l (map (top 7) (zip2 f xs ys)) % 2 ^ 64 ≡ mask_l (map (top 7) (zip2 f xs ys))
 mask_small f xs ys p q = mask_l-mod _ 64 (omega (arith, length-map (zip2 f xs ys) (top 7), length-zip2 f xs ys (p ∙ sym q)))
-
-past_small : (xs : List ℕ) → length xs ≡ 16 → AreSmall xs → (i : ℕ) → get_or xs i 0 < 16
-past_small xs long h i = elim (cases_lt i 16) [ inl l ↦ h i l | inr g ↦ let none : get_or xs i 0 ≡ 0 = get_or_past xs i 0 (omega arith) in omega arith ]
-
-pub small_of_mask : (xs : List ℕ) → length xs ≡ 16 → (eqb (mask_l (map (top 7) (zip2 at_least (replicate 16 16) xs)) % 2 ^ 64) 0 ≡ true) ↔ AreSmall xs
-small_of_mask xs long =
-    let e = mask_small at_least (replicate 16 16) xs refl long ∙ ap (λ n. mask_l (map (top 7) (zip2 at_least (replicate n 16) xs))) (sym long) in
-    (λ t i l. (none_large xs).0 (sym e ∙ eqb-true _ _ t) i, λ z. eq-eqb _ _ (e ∙ (none_large xs).1 (past_small xs long z)))
 
 -- ---- the first lane that is 16 or more
 
@@ -222,6 +202,66 @@ pairs_joined v long fits i lt =
     ap (λ k. get_or (digits_l 256 16 (number_l 65536 (octets_in_pairs v))) k 0) (sym same)
     ∙ get_or_narrower 65536 2 256 16 (octets_in_pairs v) i 0 refl all (omega arith) (omega arith)
     ∙ omega (arith, octet_in_pair v i long small lt, lane_fits v (2 * i) fits, lane_fits v (2 * i + 1) fits)
+
+-- ---- a test of all lanes, two at a time
+
+abbrev pub differs : ℕ → ℕ → ℕ
+differs a b = cond (not (eqb a b)) 65535 0
+
+flag : (x : ℕ) → (◌≡◌ {A = ℕ} (cond (top 15 (differs x 0)) 1 0) 0) ↔ (x ≡ 0)
+flag x = go (eqb x 0) refl
+  where
+    go : (t : Bool) → eqb x 0 ≡ t → (◌≡◌ {A = ℕ} (cond (top 15 (cond (not t) 65535 0)) 1 0) 0) ↔ (x ≡ 0)
+    go true e = (λ _. eqb-true _ _ e, λ _. refl)
+    go false e = (λ q. absurd (omega arith), λ z. absurd (eqb-false _ _ e z))
+
+none_differ : (xs : List ℕ) → (mask_l (map (top 15) (zip2 differs xs (replicate (length xs) 0))) ≡ 0) ↔ ((i : ℕ) → get_or xs i 0 ≡ 0)
+none_differ [] = (λ _ i. refl, λ _. refl)
+none_differ (x ∷ xs) =
+    let r = none_differ xs in
+    (λ e. elim [ zero ↦ (flag x).0 (omega arith) | suc i ↦ r.0 (omega arith) i ], λ h. omega (arith, (flag x).1 (h 0), r.1 (λ i. h (suc i))))
+
+-- the upper four bits of a number below 256, and of two
+upper_is : (a : ℕ) → a < 256 → bit_and a 240 ≡ a / 16 * 16
+upper_is a lt = eqb-true _ _ (every_below (λ k. eqb (bit_and k 240) (k / 16 * 16)) 256 refl a lt)
+
+no_upper : (a b : ℕ) → a < 256 → b < 256 → (bit_and (a + 256 * b) 61680 ≡ 0) ↔ ((a < 16) × (b < 16))
+no_upper a b p q =
+    let same : a + 256 * b ≡ b * 2 ^ 8 + a = omega arith in
+    let block : bit_and (b * 2 ^ 8 + a) 61680 ≡ bit_and b 240 * 2 ^ 8 + bit_and a 240 = and_block 8 b 240 a 240 (omega arith) (omega arith) in
+    let value : bit_and (a + 256 * b) 61680 ≡ b / 16 * 16 * 256 + a / 16 * 16 =
+    ap (λ n. bit_and n 61680) same ∙ block ∙ (λ j. upper_is b q j * 256 + upper_is a p j) in
+    (λ e. (omega (arith, value), omega (arith, value)), λ h. omega (arith, value))
+
+abbrev pub upper_bits : List ℕ → List ℕ
+upper_bits v = zip2 bit_and (digits_l 65536 8 (number_l 256 v)) (replicate 8 61680)
+
+upper_in_pair : (v : List ℕ) (i : ℕ) → length v ≡ 16 → Each1 (λ x. x < 256) v → i < 8
+    → get_or (upper_bits v) i 0 ≡ bit_and (get_or v (2 * i) 0 + 256 * get_or v (2 * i + 1) 0) 61680
+upper_in_pair v i long small lt =
+    get_or-zip2 bit_and (digits_l 65536 8 (number_l 256 v)) (replicate 8 61680) i 0 0 0 (omega arith) (omega arith)
+    ∙ (λ j. bit_and (pair_is v i long small lt j) (get_or-replicate 8 i 61680 0 lt j))
+
+pub small_of_mask : (v : List ℕ) → length v ≡ 16 → Each1 (Fits w8) v
+    → (eqb (mask_l (map (top 15) (zip2 differs (upper_bits v) (replicate 8 0))) % 2 ^ 64) 0 ≡ true) ↔ AreSmall v
+small_of_mask v long fits =
+    let small = below_from_Fits w8 v fits in
+    let pair = λ (i : ℕ) (lt : i < 8). no_upper (get_or v (2 * i) 0) (get_or v (2 * i + 1) 0) (lane_fits v (2 * i) fits) (lane_fits v (2 * i + 1) fits) in
+    let mask : mask_l (map (top 15) (zip2 differs (upper_bits v) (replicate 8 0))) % 2 ^ 64 ≡ mask_l (map (top 15) (zip2 differs (upper_bits v) (replicate 8 0))) =
+    mask_l-mod (map (top 15) (zip2 differs (upper_bits v) (replicate 8 0))) 64 (omega arith) in (
+      λ t i l.
+          let none = (none_differ (upper_bits v)).0 (sym mask ∙ eqb-true _ _ t) (i / 2) in
+          let both = (pair (i / 2) (omega arith)).0 (sym (upper_in_pair v (i / 2) long small (omega arith)) ∙ none) in
+          elim (cases_eq (i % 2) 0) [
+            | inl even ↦ let e : 2 * (i / 2) ≡ i = omega arith in subst (λ k. get_or v k 0 < 16) e both.0
+            | inr odd ↦ let e : 2 * (i / 2) + 1 ≡ i = omega arith in subst (λ k. get_or v k 0 < 16) e both.1
+          ],
+      λ all.
+          eq-eqb _ _ (mask ∙ (none_differ (upper_bits v)).1 (λ i. elim (cases_lt i 8) [
+            | inl l ↦ upper_in_pair v i long small l ∙ (pair i l).1 (all (2 * i) (omega arith), all (2 * i + 1) (omega arith))
+            | inr g ↦ get_or_past (upper_bits v) i 0 (omega arith)
+          ])),
+    )
 
 -- the octets of two vectors, of which each is at the place of its first value
 pub octets_of_both : (a b x y : List ℕ) → length a ≡ 16 → length x ≡ 16

@@ -44,6 +44,23 @@ pub record IsEndAt (text : List ℕ) (from end : ℕ) : Type 0 where
 abbrev pub AreKept : List ℕ → List ℕ → ℕ → Type 0
 AreKept old new before = (k : ℕ) → k < before → slice_index new k ≡ slice_index old k
 
+-- The codes from a place on are digits up to a later one, what they spell is read there, and the octets before the place are the same.
+-- Both places are those of octets.
+pub record IsReadTo (text old new : List ℕ) (from to : ℕ) : Type 0 where
+  pub long : length new ≡ length old
+  pub kept : AreKept old new from
+  pub digits : AreDigits text (2 * from) (2 * to)
+  pub spelled : AreSpelled text new from to
+
+-- the codes from a place of octets on are digits up to the end, where none stands, and what they spell is read there
+pub record IsReadUpTo (text octets : List ℕ) (from end : ℕ) : Type 0 where
+  pub past : 2 * from ≤ end
+  pub within : end < length text
+  pub digits : AreDigits text (2 * from) end
+  pub none : 16 ≤ value_of (slice_index text end)
+  pub room : end / 2 ≤ length octets
+  pub spelled : AreSpelled text octets from (end / 2)
+
 -- all sixteen lanes are less than 16
 abbrev pub AreSmall : List ℕ → Type 0
 AreSmall v = (i : ℕ) → i < 16 → slice_index v i < 16

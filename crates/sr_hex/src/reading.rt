@@ -4,7 +4,7 @@ ghost use Rattle.std.specs.Prelude.{◌≡◌, ◌↔◌, ◌+◌, ◌*◌, ◌/
 ghost use Rattle.std.specs.List.{AllPass};
 ghost use Rattle.hex.specs.Hex.{decode_of, is_hex_digit};
 ghost use Rattle.sr_hex.specs.Lanes.{HasLanes};
-ghost use Rattle.sr_hex.specs.Values.{AreSpelled, AreDigits, AreKept, AreSmall, IsDigitFront, IsEndAt, value_of};
+ghost use Rattle.sr_hex.specs.Values.{AreSpelled, AreDigits, AreKept, AreSmall, IsDigitFront, IsEndAt, IsReadTo, IsReadUpTo, value_of};
 
 use crate::vectors::{
     are_small, larger, letters, load, numbers, octets_of, small_front, smaller, store,
@@ -102,6 +102,30 @@ fn read_blocks(digits: &[u8], octets: &mut [u8]) -> bool
     are_small(both(worst, read_digits(digits, last, octets)))
 }
 
+/// Reads sixty-four octets from a place on, sixteen at a time, up to the first octet of the text from there on that is no digit. The
+/// result is the place of that octet; None where all hundred and twenty-eight are digits.
+// speed: D-hex-blocks. Four steps in a row, since what they compare with is had once for all.
+#[inline(always)]
+fn read_four(text: &[u8], at: usize, octets: &mut [u8]) -> Option<usize>
+    requires whole { 2 * at + 128 ≤ length text.now }
+    requires within { at + 64 ≤ length octets.old }
+    ensures long { length octets.new ≡ length octets.old }
+    ensures kept { AreKept octets.old octets.new at }
+    ensures end { IfSome result (λ end. IsReadUpTo text.now octets.new at end) }
+    ensures none { result ≡ None → IsReadTo text.now octets.old octets.new at (at + 64) }
+{
+    if let Some(end) = read_up_to(text, at, octets) {
+        return Some(end);
+    }
+    if let Some(end) = read_up_to(text, at + 16, octets) {
+        return Some(end);
+    }
+    if let Some(end) = read_up_to(text, at + 32, octets) {
+        return Some(end);
+    }
+    read_up_to(text, at + 48, octets)
+}
+
 /// Writes the octets that the digits at the front of a text spell, two digits each, up to the first octet of the text that is no
 /// digit. The answer is how many octets stand before that; a last digit without a second one spells nothing.
 ///
@@ -117,19 +141,17 @@ pub fn read_front(text: &[u8], octets: &mut [u8]) -> Option<usize>
         (take (32 * min (length text.now / 32) (length octets.old / 16)) text.now) }
 {
     let mut at = 0;
-
-    // Two steps a turn, since what they compare with is had once for both.
-    while text.len() / 2 >= at + 32 && octets.len() >= at + 32 {
+    while text.len() / 2 >= at + 64 && octets.len() >= at + 64 {
+        if let Some(end) = read_four(text, at, octets) {
+            return Some(end);
+        }
+        at += 64;
+    }
+    while text.len() / 2 >= at + 16 && octets.len() >= at + 16 {
         if let Some(end) = read_up_to(text, at, octets) {
             return Some(end);
         }
-        if let Some(end) = read_up_to(text, at + 16, octets) {
-            return Some(end);
-        }
-        at += 32;
-    }
-    if text.len() / 2 >= at + 16 && octets.len() >= at + 16 {
-        return read_up_to(text, at, octets);
+        at += 16;
     }
     None
 }

@@ -102,11 +102,14 @@ pub(crate) fn octets_of(first: u8x16, second: u8x16) -> u8x16
 }
 
 /// Whether each lane is less than 16.
+// speed: D-hex-blocks
 #[inline(always)]
 pub(crate) fn are_small(v: u8x16) -> bool
     ensures { IsTrue result ↔ AreSmall v }
 {
-    v.simd_ge(u8x16::splat(16)).to_bitmask() == 0
+    // The upper four bits of two lanes at a time, which the processor asks of all pairs in one step.
+    let upper = u16x8::from_le_bytes(v) & u16x8::splat(0xf0f0);
+    upper.simd_ne(u16x8::splat(0)).to_bitmask() == 0
 }
 
 /// The place of the lowest bit that is set; 16 where none is.

@@ -40,12 +40,12 @@ digits_unbroken (d ∷ ds) h = (λ e. no_digit d e (h 0 0 (omega arith)), digits
         absurd cc
 
 -- the time and the octets, and what stands behind their digits
-pub ends : (text behind word out : List ℕ) (left time n : ℕ)
+pub ends : (text behind word out : List ℕ) (left time n len : ℕ)
     → text ≡ word ++ 32 ∷ behind → word ≡ decimal time → time < 2 ^ 64
-    → IsDigitFront behind n → slice_index behind n ≡ 10 → 0 < n → n % 2 ≡ 0 → length text ≤ left → left - length behind + n ≤ 8000
+    → IsDigitFront behind n → slice_index behind n ≡ 10 → 0 < n → n % 2 ≡ 0 → length text ≤ left → len ≡ left - length behind + n → len ≤ 8000
     → decode_of (take (2 * (n / 2)) behind) ≡ Ok (take (n / 2) out) → n / 2 ≤ length out
-    → EndsAtFront left text (record { time = time; count = n / 2; length = left - length behind + n }) out
-ends text behind word out left time n first word_is fits front feed some even within short decoded room =
+    → EndsAtFront left text (record { time = time; count = n / 2; length = len }) out
+ends text behind word out left time n len first word_is fits front feed some even within len_is short decoded room =
     let digits = take n behind in
     let after = drop (n + 1) behind in
     let timed = spaced (decimal time ∷ digits ∷ []) in
@@ -55,8 +55,8 @@ ends text behind word out left time n first word_is fits front feed some even wi
     first ∙ ap (λ (w : List ℕ). w ++ 32 ∷ behind) word_is ∙ ap (λ (l : List ℕ). decimal time ++ 32 ∷ l) parted
     ∙ sym (append_assoc (decimal time) (32 ∷ digits) (10 ∷ after)) in
     let digits_len : length digits ≡ n = omega (arith, length-take n behind, front.within) in
-    let long : left - length behind + n + length text ≡ left + length timed =
-    omega (arith, ap length first, length-append word (32 ∷ behind), ap length word_is, length-append (decimal time) (32 ∷ digits), digits_len, within) in
+    let long : len + length text ≡ left + length timed =
+    omega (arith, len_is, ap length first, length-append word (32 ∷ behind), ap length word_is, length-append (decimal time) (32 ∷ digits), digits_len, within) in
     let space = other_than_feed 32 (lit< tt) in
     let pairs : 2 * (n / 2) ≡ n = omega arith in
     let hex : IsHex digits (take (n / 2) out) =

@@ -12,7 +12,17 @@ use sr_forwarding::RoleKind;
 use sr_frame::Port;
 use sr_hex::read_front;
 use sr_session::{FaultKind, MAX_LINE};
-use sr_words::{behind_send, is_comment, number_of, read_hex, split_word};
+use sr_words::{behind_send, front_number, is_comment, number_of, read_hex, split_word};
+
+/// No text that is shorter is read as a line whose end was not looked for, so that its room is asked for once.
+const SHORTEST: usize = 32;
+
+/// The octets of `in A`, `in B` and `in C`, each as one number, of which the first octet is the lowest.
+const IN_A: u32 = 0x4120_6e69;
+
+const IN_B: u32 = 0x4220_6e69;
+
+const IN_C: u32 = 0x4320_6e69;
 
 /// What a line asks for. The octets that it names are kept beside it.
 #[derive(Clone, Copy, Debug)]
@@ -174,10 +184,10 @@ fn timed_at(left: usize, text: &[u8], octets: &mut [u8]) -> Option<FrontLine>
     requires { length text.now ≤ left }
     ensures { IfSome result (λ f. EndsAtFront left text.now f octets.new) }
 {
-    let (time, rest) = split_word(text)?;
-    let time = number_of(time)?;
+    let (time, used) = front_number(text)?;
+    let rest = &text[used..];
     let digits = read_front(rest, octets)?;
-    let length = left - rest.len() + digits;
+    let length = left - text.len() + used + digits;
     if rest[digits] != b'\n' || digits == 0 || digits % 2 != 0 || length > MAX_LINE {
         return None;
     }
@@ -186,6 +196,39 @@ fn timed_at(left: usize, text: &[u8], octets: &mut [u8]) -> Option<FrontLine>
         count: digits / 2,
         length,
     })
+}
+
+/// The port that four octets name, the word `in`, a space and the letter of a port, if frames come in there.
+// speed: D-script-front-words
+#[inline(always)]
+fn inlet_of(role: RoleKind, word: [u8; 4]) -> Option<Port>
+    ensures named { IfSome result (λ port. word ≡ codes "in " ++ letter_of port) }
+    ensures inlet { IfSome result (λ port. IsInlet role port) }
+{
+    match u32::from_le_bytes(word) {
+        IN_A => Some(Port::A),
+        IN_B => Some(Port::B),
+        IN_C if role.has_interlink() => Some(Port::C),
+        _ => None,
+    }
+}
+
+/// The port that a text names behind the word `in`, if frames come in there, and the text behind it and a space.
+// speed: D-script-front-words
+#[inline(always)]
+fn split_front(role: RoleKind, text: &[u8]) -> Option<(Port, &[u8])>
+    ensures found { IfSome result (λ parts.
+        text.now ≡ codes "in " ++ (letter_of parts.0 ++ 32 ∷ parts.1.now)) }
+    ensures inlet { IfSome result (λ parts. IsInlet role parts.0) }
+{
+    if text.len() < SHORTEST {
+        return None;
+    }
+    let port = inlet_of(role, *text.first_chunk::<4>()?)?;
+    if text[4] != b' ' {
+        return None;
+    }
+    Some((port, &text[5..]))
 }
 
 /// The line of a frame that arrives at the front of a text, and where it comes in. None: no such line is read there.
@@ -199,7 +242,7 @@ pub(crate) fn arrival_at(
     ensures { IfSome result (λ a.
         StandsAtFront role text.now (Command.Arrive a.0 a.1.time) a.1 octets.new) }
 {
-    let (port, rest) = split_inlet(role, behind_in(text)?)?;
+    let (port, rest) = split_front(role, text)?;
     let line = timed_at(text.len(), rest, octets)?;
     Some((port, line))
 }

@@ -31,12 +31,19 @@ decimal_value ds all some first lt = sym (decimal-digits_value own ds all some f
 pub value_front : (ds : List ℕ) (i : ℕ) → i < length ds → digits_value 10 (take i ds) * 10 + digit_value (get_or ds i 0) ≤ digits_value 10 ds
 value_front ds i lt = subst (λ n. n ≤ digits_value 10 ds) (digits_value_more 10 ds i lt) (digits_value-take-le 10 ds (i + 1) (omega arith))
 
--- the value of a front of at most nineteen digits, with another behind it, is below 2 to the 64th
-pub front_fits : (ds : List ℕ) (i : ℕ) → i < length ds → length ds ≤ 19 → AllDigits 10 (take i ds) → digits_value 10 (take i ds) * 10 + 9 < 2 ^ 64
-front_fits ds i lt few all =
+-- the value of a front of at most eighteen digits, with another behind it, is below 2 to the 64th
+pub front_fits : (ds : List ℕ) (i : ℕ) → i ≤ length ds → i ≤ 18 → AllDigits 10 (take i ds) → digits_value 10 (take i ds) * 10 + 9 < 2 ^ 64
+front_fits ds i within few all =
     let below : digits_value 10 (take i ds) < 10 ^ length (take i ds) = digits_value-lt 10 (take i ds) all in
     let short : length (take i ds) ≤ 18 = omega (arith, length-take i ds) in
     let most : 10 ^ length (take i ds) ≤ 10 ^ 18 = pow-le-pow_right (lit< tt) short in
+    omega (arith, below, most)
+
+-- the value of at most nineteen digits has no more
+pub few_value : (ds : List ℕ) → length ds ≤ 19 → AllDigits 10 ds → digits_value 10 ds < 10 ^ 19
+few_value ds few all =
+    let below : digits_value 10 ds < 10 ^ length ds = digits_value-lt 10 ds all in
+    let most : 10 ^ length ds ≤ 10 ^ 19 = pow-le-pow_right (lit< tt) few in
     omega (arith, below, most)
 
 -- an octet that is no digit has no place among digits

@@ -6,5 +6,5 @@ mod numbers;
 mod words;
 
 pub use hexadecimal::read_hex;
-pub use numbers::number_of;
+pub use numbers::{front_number, number_of};
 pub use words::{behind_send, is_comment, split_word};

@@ -1,31 +1,15 @@
-use Rattle.std.proofs.Common.{◌≡◌, take, get_or, arith, sym, ap, subst, ◌∙◌, take_all}
+use Rattle.std.proofs.Common.{◌≡◌, length, take, ap, subst, ◌∙◌, take_all, arith}
 use Rattle.std.specs.Str.Parse.{AllDigits, digits_value}
-use Rattle.std.proofs.lemmas.Int.Digits.{digits_more, digits_value_more}
-use Rattle.sr_words.proofs.Numerals.{no_digit, digit_value_is, front_fits}
+use Rattle.sr_words.proofs.Numerals.{no_digit}
 use Rattle.sr_words.proofs.numbers.value_of_few.Goals as goal
 
-pub returns-then-not-is_ascii_digit : goal.returns-then-not-is_ascii_digit
-returns-then-not-is_ascii_digit c h =
-    no_digit c.args.digits.now c.loop-digit.digit-index c.loop-digit-test.true (sym c.is_ascii_digit.ensures.value ∙ c.if-not-is_ascii_digit.true) h
-
-pub overflow_mul-value : goal.overflow_mul-value
-overflow_mul-value c = omega (arith, front_fits c.args.digits.now c.loop-digit.digit-index c.loop-digit-test.true c.requires c.loop-digit.invariant.all, c.loop-digit.invariant.value)
-
-pub overflow_add-value : goal.overflow_add-value
-overflow_add-value c =
-    let digit = digit_value_is (get_or c.args.digits.now c.loop-digit.digit-index 0) (sym c.is_ascii_digit.ensures.value ∙ c.if-not-is_ascii_digit.false) in
-    omega (arith, front_fits c.args.digits.now c.loop-digit.digit-index c.loop-digit-test.true c.requires c.loop-digit.invariant.all, digit.1, c.from.ensures, c.loop-digit.invariant.value)
-
-pub loop-digit-preserved : goal.loop-digit-preserved
-loop-digit-preserved c =
-    let digit = digit_value_is (get_or c.args.digits.now c.loop-digit.digit-index 0) (sym c.is_ascii_digit.ensures.value ∙ c.if-not-is_ascii_digit.false) in
-    record {
-      all = digits_more 10 c.args.digits.now c.loop-digit.digit-index c.loop-digit-test.true c.loop-digit.invariant.all (omega (arith, digit.0, digit.1));
-      value = omega (arith, digits_value_more 10 c.args.digits.now c.loop-digit.digit-index c.loop-digit-test.true, digit.0, c.from.ensures, c.loop-digit.invariant.value);
-    }
+pub returns-then-count-digits : goal.returns-then-count-digits
+returns-then-count-digits c h =
+    let front = c.front_value-value.ensures in
+    no_digit c.args.digits.now c.front_value-value.result.1 (omega arith) (front.end (omega arith) (omega arith)) h
 
 pub returns : goal.returns
 returns c =
-    let whole : take c.loop-digit.digit-index c.args.digits.now ≡ c.args.digits.now = take_all c.loop-digit.digit-index c.args.digits.now (omega arith) in
-    let value : c.loop-digit.value ≡ digits_value 10 c.args.digits.now = c.loop-digit.invariant.value ∙ ap (digits_value 10) whole in
-    (subst (AllDigits 10) whole c.loop-digit.invariant.all, value)
+    let front = c.front_value-value.ensures in
+    let whole : take c.front_value-value.result.1 c.args.digits.now ≡ c.args.digits.now = take_all c.front_value-value.result.1 c.args.digits.now (omega arith) in
+    (subst (AllDigits 10) whole front.all, front.value ∙ ap (digits_value 10) whole)
