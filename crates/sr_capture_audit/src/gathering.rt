@@ -15,10 +15,10 @@ use crate::kind::{Kind, Sign, kind_of};
 use crate::network::Subject;
 use crate::redboxes::{RedBoxes, learn};
 use crate::ruling::{Rule, Ruling};
-use crate::timing::Timed;
+use crate::timing::{Timed, pass_after};
 use sr_audit::{Arrival, Audit, Side, Span, Spans};
 use sr_capture::Packet;
-use sr_capture_script::{Captures, Choice, Pass, Place, ScriptFault, pass_over};
+use sr_capture_script::{Captures, Choice, Pass, Place, ScriptFault};
 use sr_slots::Keys;
 use std::alloc::Global;
 use std::io::BufRead;
@@ -180,12 +180,11 @@ pub fn gathered_of<R: BufRead + Drop>(
         flows: begin_part(alloc, keys, subject, spans, by_flow),
         counters: begin_part(alloc, keys, subject, spans, by_counter),
     };
-    let mut timed = Timed {
+    let timed = Timed {
         clock: subject.clock,
         pass: gathered,
     };
-    pass_over(captures, choice, &mut timed)?;
-    Ok(timed.pass)
+    pass_after(captures, choice, timed)
 }
 
 /// The figures of captures whose spans are known.
@@ -217,5 +216,12 @@ pub fn figures_of<R: BufRead + Drop>(
         (feed_of captures.old.b start_b) (feed_of captures.old.c start_c) fault) }
 {
     let gathered = gathered_of(alloc, keys, captures, choice, subject, spans, None, None)?;
-    Ok(gathered.report)
+    let Gathered {
+        report,
+        redboxes,
+        flows,
+        counters,
+    } = gathered;
+    drop((redboxes, flows, counters));
+    Ok(report)
 }

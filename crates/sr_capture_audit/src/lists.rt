@@ -165,6 +165,21 @@ impl<W: Write> Listings<'_, W> {
         self.fates.finish(src, &mut self.decided)?;
         self.print()
     }
+
+    /// Prints what is decided of all packets.
+    fn print_all<R: BufRead + Drop>(
+        &mut self,
+        captures: &mut Captures<R>,
+        choice: &Choice,
+    ) -> Result<(), ScriptFault> {
+        print_list_names(self.writer, self.style)?;
+        pass_over(captures, choice, self)?;
+        let addresses = self.fates.addresses()?;
+        for at in 0..addresses.len() {
+            self.finish(addresses[at])?;
+        }
+        Ok(())
+    }
 }
 
 impl<W: Write> Pass for Listings<'_, W> {
@@ -223,7 +238,6 @@ pub fn print_lists<R: BufRead + Drop, W: Write>(
         lists,
         is_first: first == 0,
     };
-    print_list_names(writer, style)?;
     let mut listings = Listings {
         subject,
         style,
@@ -231,10 +245,8 @@ pub fn print_lists<R: BufRead + Drop, W: Write>(
         decided: Vec::new(alloc),
         writer,
     };
-    pass_over(captures, choice, &mut listings)?;
-    let addresses = listings.fates.addresses()?;
-    for at in 0..addresses.len() {
-        listings.finish(addresses[at])?;
-    }
-    Ok(())
+    // Let go of by `drop`, so that no proof goes through their drop code for each way out.
+    let printed = listings.print_all(captures, choice);
+    drop(listings);
+    printed
 }

@@ -13,10 +13,10 @@ use crate::flows::{Flows, flow_name};
 use crate::kind::{Kind, Numbered, kind_of};
 use crate::network::Subject;
 use crate::redboxes::RedBoxes;
-use crate::timing::Timed;
+use crate::timing::{Timed, pass_after};
 use sr_audit::{Arrival, Audit, Side, Spans};
 use sr_capture::Packet;
-use sr_capture_script::{Captures, Choice, Pass, Place, ScriptFault, pass_over};
+use sr_capture_script::{Captures, Choice, Pass, Place, ScriptFault};
 use sr_frame::Mac;
 use sr_slots::Keys;
 use std::alloc::Global;
@@ -177,10 +177,10 @@ pub fn ruled_of<R: BufRead + Drop>(
         → EndsFor (λ own. own ≡ ScriptFault.NoMemory) (feed_of captures.old.a start_a)
         (feed_of captures.old.b start_b) (feed_of captures.old.c start_c) fault) }
 {
-    let mut timed = Timed {
+    let timed = Timed {
         clock: subject.clock,
         pass: Ruling::new(alloc, keys, subject, spans, rule),
     };
-    pass_over(captures, choice, &mut timed)?;
-    Ok(timed.pass.audit)
+    let ruling = pass_after(captures, choice, timed)?;
+    Ok(ruling.audit)
 }

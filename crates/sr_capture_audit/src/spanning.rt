@@ -10,10 +10,10 @@ ghost use Rattle.sr_capture_audit.specs.Spanning.{IsSideOf, AreSpansOfAll};
 
 use crate::kind::{Kind, kind_of};
 use crate::network::{Network, Subject, Tap};
-use crate::timing::Timed;
+use crate::timing::{Timed, pass_after};
 use sr_audit::{Side, Spans};
 use sr_capture::Packet;
-use sr_capture_script::{Captures, Choice, Pass, Place, ScriptFault, pass_over};
+use sr_capture_script::{Captures, Choice, Pass, Place, ScriptFault};
 use std::io::BufRead;
 
 /// The spans of the packets so far.
@@ -82,13 +82,13 @@ pub fn spans_of<R: BufRead + Drop>(
         → EndsFor (λ _. ⊥) (feed_of captures.old.a start_a)
         (feed_of captures.old.b start_b) (feed_of captures.old.c start_c) fault) }
 {
-    let mut timed = Timed {
+    let timed = Timed {
         clock: subject.clock,
         pass: Spanning {
             subject,
             spans: Spans::NONE,
         },
     };
-    pass_over(captures, choice, &mut timed)?;
-    Ok(timed.pass.spans)
+    let spanning = pass_after(captures, choice, timed)?;
+    Ok(spanning.spans)
 }

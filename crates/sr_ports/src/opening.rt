@@ -6,6 +6,7 @@ ghost use Rattle.sr_node.specs.NodeImages.{image_state};
 ghost use Rattle.sr_ports.specs.Histories.{Steps};
 ghost use Rattle.sr_ports.specs.Stamps.{stamp};
 
+use crate::owned::beside;
 use crate::{Kept, Pass, Passes, SharedNode, Worker};
 use sr_forwarding::Role;
 use sr_frame::NoMemory;
@@ -81,7 +82,7 @@ impl<R: Role, L: Ledger> Kept<R, L> {
         ensures ager { IfOk result (λ r. r.1.ager ≡ stamp Worker.Ager 0) }
         ensures host { IfOk result (λ r. r.1.host ≡ stamp Worker.Host 0) }
     {
-        let opening = node.image()?;
+        let (opening, node) = beside(node.image(), node)?;
         let (book, whole) = blank.open::<L>();
         let passes = passes_of(whole);
         let kept = Kept {
