@@ -75,7 +75,13 @@ fn kits_of<L: Ledger, G: Framing, F: Feed>(
         ∷ line_start F.Feed passes.host.worker (G.meaning host.framing) turns passes.host.count
         host.line ∷ []) }
 {
-    let mut kits = Vec::with_capacity(alloc, 3)?;
+    let mut kits = match Vec::with_capacity(alloc, 3) {
+        Ok(kits) => kits,
+        Err(refused) => {
+            drop((passes, a, b, host));
+            return Err(refused.into());
+        }
+    };
     kits.push_reserved(kit_of(passes.a, a));
     kits.push_reserved(kit_of(passes.b, b));
     kits.push_reserved(kit_of(passes.host, host));
@@ -262,7 +268,12 @@ pub(crate) fn run_branded<
         wired.at_b wired.at_host) e.settlement e) }
 {
     match wired.node.image() {
-        Ok(given) => run_node::<N, Brand, G, F, W>(rt, &given, wired, Blank::new(5)),
+        Ok(given) => {
+            let ended = run_node::<N, Brand, G, F, W>(rt, &given, wired, Blank::new(5));
+            // By `drop`, so that no proof goes through the drop code of an image.
+            drop(given);
+            ended
+        }
         Err(refused) => {
             drop(wired);
             Err(refused.into())

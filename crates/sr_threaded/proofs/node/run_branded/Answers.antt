@@ -7,5 +7,5 @@ returns-in-Ok g c =
     let feed = g.F.Feed in
     let meaning = g.G.Framing.meaning in
     let w = c.args.wired in
-    subst (λ s. IfOk c.run_node.result (λ e. NodeRan feed (starts_at feed s (meaning w.a) (meaning w.b) (meaning w.host) w.turns w.at_a w.at_b w.at_host) e.settlement e))
-    c.in-Ok.ensures c.run_node.ensures
+    subst (λ s. IfOk c.run_node-ended.result (λ e. NodeRan feed (starts_at feed s (meaning w.a) (meaning w.b) (meaning w.host) w.turns w.at_a w.at_b w.at_host) e.settlement e))
+    c.in-Ok.ensures c.run_node-ended.ensures
