@@ -75,13 +75,7 @@ fn kits_of<L: Ledger, G: Framing, F: Feed>(
         ∷ line_start F.Feed passes.host.worker (G.meaning host.framing) turns passes.host.count
         host.line ∷ []) }
 {
-    let mut kits = match Vec::with_capacity(alloc, 3) {
-        Ok(kits) => kits,
-        Err(refused) => {
-            drop((passes, a, b, host));
-            return Err(refused.into());
-        }
-    };
+    let mut kits = Vec::with_capacity(alloc, 3)?;
     kits.push_reserved(kit_of(passes.a, a));
     kits.push_reserved(kit_of(passes.b, b));
     kits.push_reserved(kit_of(passes.host, host));
