@@ -2,8 +2,8 @@ use Rattle.std.proofs.Common.{rules, arith, ◌<◌, ◌≤◌, ◌-◌, length,
 use Rattle.sr_node.proofs.OutboxLemmas.{one_less, put_again}
 use Rattle.sr_node.proofs.outbox.Outbox.put.Goals as goal
 
-pub returns-in_err-to_parcel_in-clause-err : goal.returns-in_err-to_parcel_in-clause-err
-returns-in_err-to_parcel_in-clause-err c =
+pub returns-in_err-extend_from_slice-clause-err : goal.returns-in_err-extend_from_slice-clause-err
+returns-in_err-extend_from_slice-clause-err c =
     let xs = c.self.inside.queue.items in
     let i = c.self.inside.spares in
     let some : 0 < i = search (rules, c.if-self-eq0.false) in
@@ -15,6 +15,6 @@ returns-clause-ok c =
     let i = c.self.inside.spares in
     let some : 0 < i = search (rules, c.if-self-eq0.false) in
     let within : i ≤ length xs = search (rules, c.self.invariant) in
-    let p = c.in_ok-to_parcel_in.field-0 in
+    let p = c.to_parcel_of.result in
     ap (drop (i - 1)) (c.push_back_reserved-2.ensures.items ∙ ap (λ l. l ++ p ∷ []) c.pop_front.ensures.rest)
-    ∙ put_again xs i p some within ∙ ap (λ l. l ++ p ∷ []) c.self.view_is ∙ ap (λ q. c.args.self.now ++ q ∷ []) c.in_ok-to_parcel_in.ensures.parcel
+    ∙ put_again xs i p some within ∙ ap (λ l. l ++ p ∷ []) c.self.view_is ∙ ap (λ q. c.args.self.now ++ q ∷ []) c.to_parcel_of.ensures
