@@ -2,8 +2,8 @@ use Rattle.std.proofs.Common.{rules, arith, ◌<◌, ◌≤◌, ◌-◌, length,
 use Rattle.sr_node.proofs.OutboxLemmas.{one_less, put_again}
 use Rattle.sr_node.proofs.outbox.Outbox.put.Goals as goal
 
-pub returns-in_err-extend_from_slice-clause-err : goal.returns-in_err-extend_from_slice-clause-err
-returns-in_err-extend_from_slice-clause-err c =
+pub returns-in_err-refill-clause-err : goal.returns-in_err-refill-clause-err
+returns-in_err-refill-clause-err c =
     let xs = c.self.inside.queue.items in
     let i = c.self.inside.spares in
     let some : 0 < i = search (rules, c.if-self-eq0.false) in
