@@ -8,7 +8,7 @@ use Rattle.sr_forwarding.specs.Parcels.{ParcelImage}
 pub one_less : (xs : List ParcelImage) (i : ℕ) → 0 < i → drop (i - 1) (drop 1 xs) ≡ drop i xs
 one_less xs i some = drop-drop (i - 1) 1 xs ∙ ap (λ n. drop n xs) (omega arith)
 
--- and another parcel is put last
+-- one of those kept goes, and another parcel is put last
 pub put_again : (xs : List ParcelImage) (i : ℕ) (p : ParcelImage) → 0 < i → i ≤ length xs → drop (i - 1) (drop 1 xs ++ p ∷ []) ≡ drop i xs ++ p ∷ []
 put_again xs i p some within =
     let len = length-drop 1 xs in
