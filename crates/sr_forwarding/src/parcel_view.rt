@@ -153,6 +153,8 @@ impl<'a> ParcelView<'a> {
     }
 
     /// What routes read of it. Whether the destination is known as a node is for the caller to say: here it is not.
+    // speed: D-node-lent
+    #[inline(always)]
     pub fn header(&self) -> Header
         ensures { result ≡ header_of self.now }
     {
@@ -179,6 +181,22 @@ impl<'a> ParcelView<'a> {
         Ok(Parcel::of_parts(self.form, octets, self.seq, self.path, self.wrong_lan))
     }
 
+    /// The parcel, whose octets this list has. Does not allocate.
+    // speed: D-node-copies-in-place
+    #[inline(always)]
+    pub fn to_parcel_of(&self, list: Vec<u8>) -> Parcel
+        requires { list.items ≡ self.now.octets }
+        ensures { result ≡ self.now }
+    {
+        Parcel::of_parts(
+            self.form,
+            Frame::of(list),
+            self.seq,
+            self.path,
+            self.wrong_lan,
+        )
+    }
+
     /// A parcel of these octets in this list, in place of what it held. Where the list has room for the octets no growth is needed.
     pub fn to_parcel_in(&self, mut list: Vec<u8>) -> Result<Parcel, NoMemory>
         ensures parcel { IfOk result (λ p. p ≡ self.now) }
@@ -186,8 +204,7 @@ impl<'a> ParcelView<'a> {
     {
         list.clear();
         list.extend_from_slice(self.octets)?;
-        let octets = Frame::of(list);
-        Ok(Parcel::of_parts(self.form, octets, self.seq, self.path, self.wrong_lan))
+        Ok(self.to_parcel_of(list))
     }
 
     /// The parcel in plain form, with octets of its own that are copied once. `NoMemory` where the allocation failed.

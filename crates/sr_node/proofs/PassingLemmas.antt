@@ -16,11 +16,12 @@ use Rattle.sr_node.specs.declared.passing.Arrival.{Arrival}
 use Rattle.sr_node.specs.declared.fault.StepFault.TheVariants as fault
 use Rattle.sr_forwarding.specs.declared.fault.ReadFault.TheVariants as read
 use Rattle.sr_node.specs.Arriving.{header_told, header_at, wanted_at, is_too_long, is_untagged, is_own, going_on, goes, next_at, full_fault, outlets_fault, arrive_refusal, passed, PassedTo, Arrived, arrival_answer, wrong_lan_after}
-use Rattle.sr_node.specs.Copies.{copies_for, put_copies}
+use Rattle.sr_node.specs.Copies.{put_at}
 use Rattle.sr_node.specs.Hearing.{SaysOf, number_heard, announced, nodes_heard, nodes_told}
-use Rattle.sr_node.specs.Images.{State}
+use Rattle.sr_node.specs.Images.{CoreValue, State, shown}
 use Rattle.sr_node.specs.Lanes.{new_outlets, sources_after}
-use Rattle.sr_node.specs.Plans.{new_to, IsOther, IsAdmitted, IsPlanned, IsObserved, IsPassing, passed_as}
+use Rattle.sr_node.specs.Outboxes.{Outboxes}
+use Rattle.sr_node.specs.Plans.{new_to, IsOther, IsAdmitted, IsPlanned, IsObserved, IsPassing, LetsPass, passed_as}
 use Rattle.sr_node.specs.Faults.{IsAccepted}
 
 passed_same : (s : State) (f : Passing) (p : ParcelImage) (said : Option Supervision) → IsOther s p f.arrival
@@ -43,10 +44,20 @@ passed_same s f p said other observed =
         next = a.next;
         sources = sources_after s.core.width s.core.sources a.inlet (read i).src (read i).seq (wanted i) a.moment;
         nodes = nodes_told (nodes_heard s.core.nodes a.inlet (read i).src (number i) a.moment) a.inlet (told i) a.moment;
-        out = put_copies s.core.out (copies_for f.outlets p);
+        out = put_at s.core.out f.outlets p;
         wrong_lan = wrong_lan_after s.core.wrong_lan a.inlet p;
       };
     }
+
+-- what waits has no say in whether a frame is new
+pub still_passes : (c : CoreValue) (f : Passing) (o : Outboxes) → LetsPass (shown c) f → LetsPass (shown (record c { out = o })) f
+still_passes c f o passes = record {
+  asked = passes.asked;
+  goes = passes.goes;
+  record_found = passes.record_found;
+  node_found = passes.node_found;
+  network = passes.network;
+}
 
 -- what a frame says is not changed by its number
 says_same : (s : State) (inlet : Port) (p : ParcelImage) (said : Option Supervision) → SaysOf (going_on s inlet p) said → SaysOf p said

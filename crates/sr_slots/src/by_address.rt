@@ -96,6 +96,8 @@ impl<V: Drop + Ranked> Slots<V> {
     }
 
     /// The value at an address, and where it is.
+    // speed: D-node-inlined
+    #[inline(always)]
     pub fn find(&self, key: Mac) -> Option<(Hint, &V)>
         ensures { option_map (λ found. found.1.now) result ≡ value_at self.now key }
     {

@@ -1,26 +1,27 @@
-//! What a node keeps changes as an event is taken. No change can fail; only what another node has noted is taken over or refused whole.
+//! What a node keeps changes as an event is taken. No change can fail, but that copies are put and what another node has noted is taken
+//! over whole or not at all.
 
 ghost use Rattle.std.specs.Prelude.{◌≡◌, ◌+◌, OnOk, IfErr, OnErr, IsSome, None, Some, true, length, unwrap_or};
 ghost use Rattle.std.specs.Option.{ForSome};
 ghost use Rattle.sr_dup_table.specs.Sources.{live_at};
+ghost use Rattle.sr_forwarding.specs.Parcels.{ParcelImage};
 ghost use Rattle.sr_frame.specs.declared.fields.Mac.{Mac as Address};
 ghost use Rattle.sr_node_table.specs.Watching.{after_prune};
 ghost use Rattle.sr_node.specs.Hearing.{is_network, HasRoomFor, IsReadyToo, IsReadyFor, nodes_heard, nodes_told};
 ghost use Rattle.sr_node.specs.Lanes.{sources_after};
-ghost use Rattle.sr_node.specs.Outboxes.{box_at, boxes_left, first_of};
-ghost use Rattle.sr_node.specs.Copies.{Room, put_copies};
+ghost use Rattle.sr_node.specs.Outboxes.{Outboxes, box_at, boxes_left, first_full, first_of};
+ghost use Rattle.sr_node.specs.Copies.{put_at};
 ghost use Rattle.sr_node.specs.Images.{shown, with_time, after, IsReady, IsIdle};
 ghost use Rattle.sr_node.specs.Absorbing.{Absorbed, absorb_fault};
 ghost use Rattle.sr_node.specs.Arriving.{wrong_lan_after};
 ghost use Rattle.sr_node.specs.Plans.{HoldsNodes, IsOfNetwork, IsReserved, LetsPass, applied};
 
-use crate::copies::{Copies, put_copies};
 use crate::fault::merge_fault;
 use crate::passing::Passing;
 use crate::{Core, MergeFault, PerPort};
 use sr_dup_table::DupTable;
-use sr_forwarding::{Parcel, ParcelView};
-use sr_frame::Port;
+use sr_forwarding::{Outlets, Parcel, ParcelView};
+use sr_frame::{NoMemory, Port};
 
 // The counts after a frame from this port.
 // speed: D-node-inlined
@@ -131,24 +132,37 @@ impl Core {
         self.observe_announced(passing);
     }
 
-    /// The changes of a frame that passes as this parcel.
+    /// A copy of the parcel for each of these outlets, last in its queue, or, where an allocation failed, for none.
     // speed: D-node-inlined
     #[inline(always)]
-    pub(crate) fn apply_arrive(
-        &mut self,
-        passing: &Passing<'_>,
-        parcel: &ParcelView<'_>,
-        copies: &mut Copies,
-    )
-        requires { IsReserved self.old passing.now copies.old }
-        ensures shown { shown self.new
-            ≡ applied (shown self.old) passing.now parcel.now copies.old }
+    pub(crate) fn put(&mut self, outlets: Outlets, parcel: &ParcelView<'_>) -> Result<(), NoMemory>
+        requires { first_full self.old.out outlets ≡ None }
+        ensures ok { OnOk result
+            (self.new ≡ record self.old { out = put_at self.old.out outlets parcel.now }) }
+        ensures err { OnErr result (self.new ≡ self.old) }
+    {
+        self.out.put(self.alloc, outlets, parcel)
+    }
+
+    /// The copies go that were put last for these outlets.
+    pub(crate) fn take_back(&mut self, outlets: Outlets)
+        ensures { (before : Outboxes) (p : ParcelImage) → self.old.out ≡ put_at before outlets p
+            → self.new ≡ record self.old { out = before } }
+    {
+        self.out.take_back(outlets);
+    }
+
+    /// The changes of a frame that passes as this parcel, whose copies are put.
+    // speed: D-node-inlined
+    #[inline(always)]
+    pub(crate) fn apply_arrive(&mut self, passing: &Passing<'_>, parcel: &ParcelView<'_>)
+        requires { IsReserved self.old passing.now }
+        ensures shown { shown self.new ≡ applied (shown self.old) passing.now parcel.now }
         ensures idle { IsIdle self.new }
     {
         self.note(passing);
         self.observe(passing);
         count_wrong_lan(&mut self.wrong_lan, passing.arrival.inlet, parcel);
-        put_copies(&mut self.out, copies);
         self.next = passing.arrival.next;
         self.time = passing.arrival.moment;
         self.release();
@@ -163,36 +177,31 @@ impl Core {
         self.time = now;
     }
 
-    /// The changes of a frame of the node that goes out under the next number.
-    pub(crate) fn apply_send(&mut self, copies: &mut Copies, now: u64)
-        requires { Room self.old.out copies.old }
+    /// The changes of a frame of the node that went out under the next number.
+    pub(crate) fn apply_send(&mut self, now: u64)
         ensures shown { shown self.new ≡ record (shown self.old) {
           time = now;
           next = after self.old.next;
-          out = put_copies self.old.out copies.old;
         } }
         ensures held { self.new.table ≡ self.old.table }
         ensures nodes { self.new.nodes ≡ self.old.nodes }
     {
-        put_copies(&mut self.out, copies);
         self.next = self.next.next();
         self.time = now;
     }
 
-    /// The changes of a life check that goes out: those of a frame of the node, and it is counted.
-    pub(crate) fn apply_life(&mut self, copies: &mut Copies, now: u64)
-        requires { Room self.old.out copies.old }
+    /// The changes of a life check that went out: those of a frame of the node, and it is counted.
+    pub(crate) fn apply_life(&mut self, now: u64)
         ensures shown { shown self.new ≡ record (shown self.old) {
           time = now;
           next = after self.old.next;
           next_life = after self.old.next_life;
           life_at = Some now;
-          out = put_copies self.old.out copies.old;
         } }
         ensures held { self.new.table ≡ self.old.table }
         ensures nodes { self.new.nodes ≡ self.old.nodes }
     {
-        self.apply_send(copies, now);
+        self.apply_send(now);
         self.next_life = self.next_life.next();
         self.life_at = Some(now);
     }
@@ -225,7 +234,7 @@ impl Core {
         self.out.take(port)
     }
 
-    /// The first parcel that waits at a port goes, and the next copy is made in its memory.
+    /// The first parcel that waits at a port goes, and the next copy there is made in its memory.
     // speed: D-node-memory-again
     #[inline(always)]
     pub(crate) fn drop_first(&mut self, port: Port)
@@ -234,7 +243,7 @@ impl Core {
         ensures held { self.new.table ≡ self.old.table }
         ensures nodes { self.new.nodes ≡ self.old.nodes }
     {
-        self.out.drop_first(port, &mut self.spare);
+        self.out.drop_first(port);
     }
 
     /// Goes on with what this table has noted, at this time. The places held in it are given up.

@@ -2,38 +2,16 @@
 
 ghost use Rattle.std.specs.Prelude.{◌≡◌, OnOk, OnErr, IsOk, None, true};
 ghost use Rattle.sr_slots.specs.Places.{IsFound};
-ghost use Rattle.sr_node.specs.Copies.{Room, no_copies, copies_for};
 ghost use Rattle.sr_node.specs.Hearing.{HasRoomFor, HasRoomToo, IsFullFor};
 ghost use Rattle.sr_node.specs.Images.{shown, IsReady, IsIdle};
-ghost use Rattle.sr_node.specs.Outboxes.{first_full};
 ghost use Rattle.sr_node.specs.Plans.{HoldsNodes, LetsPass};
 
 use crate::Core;
-use crate::copies::{Copies, copies_for};
 use crate::passing::Passing;
-use sr_forwarding::{Outlets, ParcelView};
 use sr_frame::{Mac, NoMemory};
 use sr_slots::Hint;
 
 impl Core {
-    /// A copy for each of these outlets, where there is room. Nothing that shows changes. NoMemory: an allocation failed.
-    // speed: D-node-inlined
-    #[inline(always)]
-    pub(crate) fn reserve_copies(
-        &mut self,
-        outlets: Outlets,
-        parcel: &ParcelView<'_>,
-        copies: &mut Copies,
-    ) -> Result<(), NoMemory>
-        requires full { first_full self.old.out outlets ≡ None }
-        requires none { copies.old ≡ no_copies }
-        ensures copies { OnOk result (copies.new ≡ copies_for outlets parcel.now) }
-        ensures room { OnOk result (Room self.new.out copies.new) }
-        ensures same { self.new ≡ self.old }
-    {
-        copies_for(self.alloc, outlets, parcel, &mut self.spare, copies)
-    }
-
     /// Holds places for the note of a frame that passes and for what it makes known. Nothing that shows changes.
     // speed: D-node-inlined
     #[inline(always)]

@@ -4,11 +4,5 @@ use Rattle.sr_forwarding.proofs.parcel_view.ParcelView.to_parcel_in.Goals as goa
 pub returns-in_err-extend_from_slice-clause-room : goal.returns-in_err-extend_from_slice-clause-room
 returns-in_err-extend_from_slice-clause-room c = search rules
 
-pub of-octets-requires : goal.of-octets-requires
-of-octets-requires c = search rules
-
-pub of_parts-requires : goal.of_parts-requires
-of_parts-requires c = search rules
-
 pub returns-clause-parcel : goal.returns-clause-parcel
 returns-clause-parcel c = search rules
