@@ -38,7 +38,9 @@ fn main(rt: HostRuntime) -> ExitCode {
         Progress::Silent
     };
     let starts = |job: Job| -> bool { thread::spawn(&rt, move || job.run(rt)).is_ok() };
-    match start(&rt, progress, &starts) {
+    let text = Host::new(&rt, LineFormat::Text);
+    let json = Host::new(&rt, LineFormat::Json);
+    match start(&rt, &text, &json, progress, &starts) {
         Ok(()) => ExitCode::SUCCESS,
         Err(code) => ExitCode::from(code),
     }
@@ -75,37 +77,26 @@ fn obey<
     outcome.map_err(|()| RUN_FAILED)
 }
 
-/// Does what the command line asks for, on a runtime whose standard error is spelled as it says. Where it has objects, no progress is told.
+/// Does what the command line asks for, on the runtime whose standard error is spelled as it says. Where that has objects, no progress is told.
 fn obey_spelled<
     R: AllocGlobal + Print + Eprint + Input + Files + RandomSource + Threads + Wait + Sync + Clock,
     S: Fn(Job) -> bool,
->(rt: &R, task: &Task<'_>, progress: Progress, starts: &S) -> Result<(), u8>
+>(text: &R, json: &R, task: &Task<'_>, progress: Progress, starts: &S) -> Result<(), u8>
     requires { S.IsAlwaysCallable starts.now }
 {
-    let format = told_format_of(task);
-    let progress = match format {
-        LineFormat::Text => progress,
-        LineFormat::Json => Progress::Silent,
-    };
-    let host = Host::new(rt, format);
-    obey(&host, task, progress, starts)
+    match told_format_of(task) {
+        LineFormat::Text => obey(text, task, progress, starts),
+        LineFormat::Json => obey(json, task, Progress::Silent, starts),
+    }
 }
 
-/// Reads the command line and does what it asks for. An error is the exit status; why is on standard error.
+/// Reads the command line and does what it asks for, on one of two runtimes: standard error is text there, or objects. An error is the exit
+/// status; why is on standard error.
 fn start<
-    R: AllocGlobal
-        + Print
-        + Eprint
-        + Input
-        + Env
-        + Files
-        + RandomSource
-        + Threads
-        + Wait
-        + Sync
-        + Clock,
+    E: AllocGlobal + Print + Eprint + Env,
+    R: AllocGlobal + Print + Eprint + Input + Files + RandomSource + Threads + Wait + Sync + Clock,
     S: Fn(Job) -> bool,
->(rt: &R, progress: Progress, starts: &S) -> Result<(), u8>
+>(rt: &E, text: &R, json: &R, progress: Progress, starts: &S) -> Result<(), u8>
     requires { S.IsAlwaysCallable starts.now }
 {
     let args = match std::env::args(rt) {
@@ -120,7 +111,7 @@ fn start<
     };
     let known = Words::new();
     match task_of(rt.alloc(), &known, words.as_slice()) {
-        Ok(task) => obey_spelled(rt, &task, progress, starts),
+        Ok(task) => obey_spelled(text, json, &task, progress, starts),
         Err(refused) => tell_refused(rt, refused),
     }
 }
