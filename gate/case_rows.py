@@ -99,7 +99,8 @@ def add(row, lines, names):
         elif kind == ">":
             row.stdout += octets_of(filled(text, names))
         elif kind in ("!", "?") and text:
-            row.stderr.append(filled(text, names))
+            # A backslash that stands before no brace is told as it is.
+            row.stderr.append(filled(text, names).replace("\\{", "{"))
             row.status = "1" if kind == "!" else row.status
         elif kind == "file" and re.fullmatch(r"[a-z.]+ .*", text):
             name, _, digits = text.partition(" ")
