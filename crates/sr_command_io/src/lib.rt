@@ -12,9 +12,7 @@ mod progress;
 mod spelled;
 
 pub use ended::Ended;
-pub use files::{
-    Opened, Sides, digest_at, open_captures, open_file, shown_of, size_of, tell_file,
-};
+pub use files::{Opened, Sides, digest_at, open_captures, open_file, shown_of, size_of, tell_file};
 pub use order::check_order;
 pub use owned::{beside, both};
 pub use pipes::{Pipe, Surveyed};
