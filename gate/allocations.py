@@ -23,7 +23,7 @@ import tempfile
 import allocation_runs
 
 TOP = os.path.dirname(os.path.dirname(os.path.realpath(__file__)))
-CRATES = tuple(f"sr_{it}_tests" for it in "format table capture node network script ports workers threaded".split())
+CRATES = tuple(f"sr_tests_{it}" for it in "format table capture node network script ports workers threaded".split())
 # A child that takes longer hangs.
 SECONDS = 20
 # So many allocations of a test are refused one after the other, and as many of those behind them.

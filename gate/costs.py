@@ -36,11 +36,11 @@ class Run:
 # The most octets that a test holds: half as many again as it needs.
 TESTS = {
     # Tables of one source, and what is written and read of them.
-    ("sr_table_tests", "snapshots::restored"): 12_500,
+    ("sr_tests_table", "snapshots::restored"): 12_500,
     # Tables of 1024 sources in both widths.
-    ("sr_table_tests", "snapshots::there_and_back"): 3_800_000,
+    ("sr_tests_table", "snapshots::there_and_back"): 3_800_000,
     # Rings of a few nodes, whose hosts are handed some ten frames.
-    ("sr_network_tests", "plants::traffic::rings"): 580_000,
+    ("sr_tests_network", "plants::traffic::rings"): 580_000,
 }
 
 

@@ -172,7 +172,7 @@ def crate_tables(root):
             yield architecture, 1, f"`{name}` is not in the drawing"
     for name in wanted:
         readme = root / "crates" / name / "README.md"
-        if name.endswith("_tests"):
+        if name.startswith("sr_tests_"):
             continue
         if not readme.exists() or not readme.read_text().startswith(f"# {name}\n"):
             yield readme, 1, f"is no README of `{name}`"
@@ -185,7 +185,7 @@ WIRE_NUMBERS = {4095, 4096, 32767, 32768, 65535, 65536}
 SPELLED = {
     "crates/sr_frame/specs/Frame.antt": {1524},  # a frame's longest, which all else is counted from
     "crates/sr_dup_window/specs/Bins.antt": {1024, 2048},  # the widths of a record
-    "crates/sr_dup_runs/specs/TableRuns.antt": {65534, 65537},  # numbers that come round
+    "crates/sr_laws_dup/specs/TableRuns.antt": {65534, 65537},  # numbers that come round
     "crates/sr_slots/specs/Calls.antt": {18446744073709551615},  # the greatest of 64 bits
 }
 
@@ -271,7 +271,7 @@ def made_lacks(root):
     failed = re.compile(r"(?:\bErr\(.*\)|NoMemory\)?|Memory\)?) =>|\|_\w*\|")
     for path in sorted(root.glob("crates/*/src/**/*.rt")):
         name = path.relative_to(root)
-        if name.as_posix() in MADE or name.parts[1].endswith("_tests") or name.name == "tests.rt":
+        if name.as_posix() in MADE or name.parts[1].startswith("sr_tests_") or name.name == "tests.rt":
             continue
         lines = path.read_text().split("\n")
         ghost = set(clause_lines(lines))
@@ -300,7 +300,7 @@ def dropped_keys(root):
     `new` or a `with` alone that takes none. What runs a node of the command line draws keys, and keys that are drawn go on too.
     No clause can see them, since no answer depends on them."""
     sources = [path for path in sorted(root.glob("crates/*/src/**/*.rt")) if path.name != "tests.rt"]
-    sources = [path for path in sources if not path.relative_to(root).parts[1].endswith("_tests")]
+    sources = [path for path in sources if not path.relative_to(root).parts[1].startswith("sr_tests_")]
     keyed = {name for path in sources for name in re.findall(r"\b(\w+)::with_keys\(", path.read_text())}
     for path in sources:
         name = path.relative_to(root).as_posix()
@@ -342,7 +342,7 @@ def stripped(text):
 
 def untested_examples(root):
     """The Rust that a document shows stands in a crate of tests, so that it is compiled."""
-    tests = [stripped(path.read_text()) for path in sorted(root.glob("crates/*_tests/src/**/*.rt"))]
+    tests = [stripped(path.read_text()) for path in sorted(root.glob("crates/sr_tests_*/src/**/*.rt"))]
     for path in documents(root):
         text = path.read_text()
         for shown in re.finditer(r"^```rust\n(.*?)^```", text, re.MULTILINE | re.DOTALL):
@@ -403,7 +403,7 @@ def laws(root):
     found = {}
     for path in sorted(root.glob("crates/*/src/**/*.rt")):
         crate = path.relative_to(root).parts[1]
-        if crate.endswith("_tests"):
+        if crate.startswith("sr_tests_"):
             continue
         text = path.read_text()
         for function in law.finditer(text):
@@ -500,7 +500,7 @@ def decision_keys(root):
 
 def large_test_crates(root):
     """A crate of tests has at most 3000 lines: a large one is the gate's longest proof, and takes its memory."""
-    for folder in sorted(root.glob("crates/*_tests")):
+    for folder in sorted(root.glob("crates/sr_tests_*")):
         lines = sum(len(path.read_text().splitlines()) for path in folder.glob("src/**/*.rt"))
         if lines > MOST_TEST_LINES:
             yield folder / "src/lib.rt", 1, f"{folder.name} has {lines} lines, more than {MOST_TEST_LINES}"

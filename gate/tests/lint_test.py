@@ -9,14 +9,14 @@ sys.path.insert(0, str(Path(__file__).resolve().parent.parent))
 import lint  # noqa: E402
 
 IN_ORDER = {
-    "crates.txt": "# Each crate: a line.\n\n# Octets: one\nsr_one: # sr_none: none\n\n# Tests\nsr_one_tests: sr_one\n",
+    "crates.txt": "# Each crate: a line.\n\n# Octets: one\nsr_one: # sr_none: none\n\n# Tests\nsr_tests_one: sr_one\n",
     "README.md": "See [the map](docs/ARCHITECTURE.md).\n",
-    "docs/ARCHITECTURE.md": "```\nsr_one sr_one_tests\n```\n"
-    "| `sr_one` | `lib.rt` |\n| `sr_one_tests` | tests |\n## What is planned\n| `sr_two` |\n",
+    "docs/ARCHITECTURE.md": "```\nsr_one sr_tests_one\n```\n"
+    "| `sr_one` | `lib.rt` |\n| `sr_tests_one` | tests |\n## What is planned\n| `sr_two` |\n",
     "crates/sr_one/README.md": "# sr_one\n",
     "crates/sr_one/src/lib.rt": "/// What it does.\n#[inline]\npub fn one() {}\nfn own() {}\n",
     "crates/sr_one/specs/Ones.antt": "one = 1\n",
-    "crates/sr_one_tests/src/lib.rt": "",
+    "crates/sr_tests_one/src/lib.rt": "",
 }
 
 
@@ -72,11 +72,11 @@ class Lint(unittest.TestCase):
             self.assertEqual(self.findings({f"crates/sr_one/specs/{name}.antt": "IsShort n = n < 8000\n"}), [])
 
     def test_names_twice(self):
-        other = "crates/sr_one_tests/specs/Ones.antt"
+        other = "crates/sr_tests_one/specs/Ones.antt"
         for line in ["abbrev pub two : ℕ", "unfoldable pub two : ℕ", "pub record two : Type 0 where", "pub data two : Type 0 where"]:
             twice = {"crates/sr_one/specs/Ones.antt": line + "\n", other: "-- two\nabbrev pub two : ℕ\n"}
-            self.assertEqual(self.findings(twice), [f"{other}:2: `two` is public in sr_one and sr_one_tests"])
-            listed = {**twice, "gate/shared_names.txt": "# Both.\ntwo: sr_one sr_one_tests\n"}
+            self.assertEqual(self.findings(twice), [f"{other}:2: `two` is public in sr_one and sr_tests_one"])
+            listed = {**twice, "gate/shared_names.txt": "# Both.\ntwo: sr_one sr_tests_one\n"}
             self.assertEqual(self.findings(listed), [])
         for line in ["two : ℕ", "  pub two : ℕ", "pub mod two", "-- abbrev pub two : ℕ"]:
             once = {"crates/sr_one/specs/Ones.antt": "abbrev pub two : ℕ\n", other: line + "\n"}
@@ -184,9 +184,9 @@ class Lint(unittest.TestCase):
         self.assertEqual(found, ["docs/MODEL.md:1: names `one_three`, which no source has"])
 
     def test_crates_out_of_order(self):
-        found = ["crates.txt:2: `sr_one_tests` stands on `sr_one`, which stands below it"]
+        found = ["crates.txt:2: `sr_tests_one` stands on `sr_one`, which stands below it"]
         for layer, wanted in [("# Octets", found), ("# Laws", []), ("#Laws", found), ("# Laws\n# Others", found)]:
-            listed = {"crates.txt": f"# Tests\nsr_one_tests: sr_one std\n\n{layer}\nsr_one: std # Laws\n"}
+            listed = {"crates.txt": f"# Tests\nsr_tests_one: sr_one std\n\n{layer}\nsr_one: std # Laws\n"}
             self.assertEqual(self.findings(listed), wanted, layer)
 
     def test_crate_tables(self):
@@ -194,17 +194,17 @@ class Lint(unittest.TestCase):
             self.findings({"crates/sr_two/src/lib.rt": ""}), ["crates.txt:1: `sr_two` has no line or no folder"]
         )
         self.assertEqual(
-            self.findings({"crates/sr_one_tests/src/lib.rt": None}),
-            ["crates.txt:1: `sr_one_tests` has no line or no folder"],
+            self.findings({"crates/sr_tests_one/src/lib.rt": None}),
+            ["crates.txt:1: `sr_tests_one` has no line or no folder"],
         )
         self.assertEqual(
-            self.findings({"docs/ARCHITECTURE.md": "```\nsr_one sr_one_tests\n```\n| `sr_one` | `lib.rt` |\n| `sr_two` |\n## What is planned\n`sr_two`\n"}),
+            self.findings({"docs/ARCHITECTURE.md": "```\nsr_one sr_tests_one\n```\n| `sr_one` | `lib.rt` |\n| `sr_two` |\n## What is planned\n`sr_two`\n"}),
             [
                 f"docs/ARCHITECTURE.md:1: `{name}` stands in crates.txt or in the table of crates, and not in both"
-                for name in ["sr_one_tests", "sr_two"]
+                for name in ["sr_tests_one", "sr_two"]
             ],
         )
-        undrawn = IN_ORDER["docs/ARCHITECTURE.md"].replace("sr_one sr_one_tests\n", "sr_one_tests\n")
+        undrawn = IN_ORDER["docs/ARCHITECTURE.md"].replace("sr_one sr_tests_one\n", "sr_tests_one\n")
         self.assertEqual(
             self.findings({"docs/ARCHITECTURE.md": undrawn}), ["docs/ARCHITECTURE.md:1: `sr_one` is not in the drawing"]
         )
@@ -216,7 +216,7 @@ class Lint(unittest.TestCase):
 
     def test_untested_examples(self):
         shown = {"README.md": IN_ORDER["README.md"] + "```rust\nlet one = 1;\nlet two = one;\n```\n"}
-        test = "crates/sr_one_tests/src/lib.rt"
+        test = "crates/sr_tests_one/src/lib.rt"
         self.assertEqual(self.findings({**shown, test: "    let one = 1;\n    let two = one;\n"}), [])
         self.assertEqual(
             self.findings({**shown, test: "    let two = 1;\n"}), ["README.md:2: shows Rust that no crate of tests has"]
@@ -254,10 +254,10 @@ class Lint(unittest.TestCase):
         self.assertEqual(self.findings({"README.md": "one\n" * 1001}), ["README.md:1: has 1001 words, more than 1000"])
 
     def test_large_test_crates(self):
-        whole = {"crates/sr_one_tests/src/lib.rt": "//\n" * 1000, "crates/sr_one_tests/src/one/two.rt": "//\n" * 2000}
-        large = "crates/sr_one_tests/src/lib.rt:1: sr_one_tests has 3001 lines, more than 3000"
+        whole = {"crates/sr_tests_one/src/lib.rt": "//\n" * 1000, "crates/sr_tests_one/src/one/two.rt": "//\n" * 2000}
+        large = "crates/sr_tests_one/src/lib.rt:1: sr_tests_one has 3001 lines, more than 3000"
         self.assertNotIn(large, self.findings(whole))
-        self.assertIn(large, self.findings({**whole, "crates/sr_one_tests/src/three.rt": "//\n"}))
+        self.assertIn(large, self.findings({**whole, "crates/sr_tests_one/src/three.rt": "//\n"}))
         self.assertNotIn("more than", "".join(self.findings({"crates/sr_one/src/lib.rt": "//\n" * 3001})))
 
     def test_untold_laws(self):
@@ -282,7 +282,7 @@ class Lint(unittest.TestCase):
             law.replace("pub fn", "pub(crate) fn"),
         ]:
             self.assertEqual(self.findings({source: other, page: row}), lost, other)
-        self.assertEqual(self.findings({"crates/sr_one_tests/src/laws.rt": law}), [])
+        self.assertEqual(self.findings({"crates/sr_tests_one/src/laws.rt": law}), [])
 
     def test_failed_allocations(self):
         for text in [

@@ -1,7 +1,7 @@
 -- A run in which packets are taken and none is written.
 use Rattle.std.proofs.Common.{◌≡◌, List, [], ◌∷◌, ◌++◌, refl, sym, ap, ◌∙◌, subst}
 use Rattle.sr_dup_table.specs.Limits.{window}
-use Rattle.sr_dup_runs.specs.TableRuns.{AreSteady}
+use Rattle.sr_laws_dup.specs.TableRuns.{AreSteady}
 use Rattle.sr_merge.specs.MergeRuns.{Numbered, MergeTurn, took, MergeRun, reads, written_in, packets_in, arrivals_read, AreInTime, firsts}
 use Rattle.sr_merge.specs.Verdicts.{kept_of_all, in_order, HaveWholes, EachFrameIsKeptOnce}
 use Rattle.sr_merge.specs.VerdictLemmas.{with_all_more}

@@ -37,7 +37,7 @@ use Rattle.sr_dup_window.specs.LaneSets.{has, only}
 use Rattle.sr_dup_table.specs.Limits.{window}
 use Rattle.sr_dup_table.specs.Sources.{Sources, arrive_answer, after_arrive}
 use Rattle.sr_dup_table.specs.Ageing.{left_by}
-use Rattle.sr_dup_runs.specs.TableRuns.{
+use Rattle.sr_laws_dup.specs.TableRuns.{
   Arrival,
   Noting,
   TableTurn,
@@ -52,7 +52,7 @@ use Rattle.sr_dup_runs.specs.TableRuns.{
   AreInOrder,
   AreSteady,
 }
-use Rattle.sr_dup_runs.specs.RunLemmas.{each_pair_is_new_once}
+use Rattle.sr_laws_dup.specs.RunLemmas.{each_pair_is_new_once}
 use Rattle.sr_merge.specs.declared.came.FrameId.{FrameId}
 use Rattle.sr_merge.specs.Limits.{record_step}
 use Rattle.sr_merge.specs.Merging.{Merging, shown_arrival, answer_for, is_new_by, is_new, sources_told}

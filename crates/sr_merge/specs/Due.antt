@@ -19,7 +19,7 @@ use Rattle.std.specs.Prelude.{
   if◌then◌else◌,
 }
 use Rattle.sr_dup_table.specs.Limits.{window}
-use Rattle.sr_dup_runs.specs.TableRuns.{AreSteady}
+use Rattle.sr_laws_dup.specs.TableRuns.{AreSteady}
 use Rattle.sr_merge.specs.Limits.{copy_time, most_held}
 use Rattle.sr_merge.specs.Merging.{Read, Pending, Merging, verdict_of}
 use Rattle.sr_merge.specs.MergeRuns.{Numbered, MergeTurn, took, wrote, Turns, reads, written_in, packets_in}

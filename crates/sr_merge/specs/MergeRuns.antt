@@ -23,7 +23,7 @@ use Rattle.sr_sequence.specs.Numbers.{wire}
 use Rattle.sr_dup_window.specs.declared.lane_sets.Lanes.{Lanes}
 use Rattle.sr_dup_table.specs.Limits.{window}
 use Rattle.sr_dup_table.specs.Sources.{Sources}
-use Rattle.sr_dup_runs.specs.TableRuns.{Arrival, is_copy, AreSteady}
+use Rattle.sr_laws_dup.specs.TableRuns.{Arrival, is_copy, AreSteady}
 use Rattle.sr_merge.specs.declared.came.FrameId.{FrameId}
 use Rattle.sr_merge.specs.Limits.{record_step}
 use Rattle.sr_merge.specs.Merging.{Read, Pending, Merging, answer_for, is_new, sources_told, TakesIn}

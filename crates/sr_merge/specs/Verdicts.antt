@@ -1,7 +1,7 @@
 -- What becomes of all packets that are taken: which are written, and by which sides they came.
 use Rattle.std.specs.Prelude.{◌≡◌, ℕ, ◌+◌, ◌-◌, ◌≤◌, nat_lt, List, [], ◌∷◌, ◌++◌, Option, None, Some, if◌then◌else◌}
 use Rattle.sr_dup_table.specs.Limits.{window}
-use Rattle.sr_dup_runs.specs.TableRuns.{AreSteady}
+use Rattle.sr_laws_dup.specs.TableRuns.{AreSteady}
 use Rattle.sr_merge.specs.declared.came.FrameId.{FrameId}
 use Rattle.sr_merge.specs.declared.waiting.Verdict.{Verdict}
 use Rattle.sr_merge.specs.declared.waiting.Verdict.TheVariants as verdict

@@ -7,7 +7,7 @@ use Rattle.std.proofs.lemmas.List.Elements.{filter-append}
 use Rattle.sr_frame.specs.declared.ports.Port.TheVariants.{A, B, C}
 use Rattle.sr_forwarding.specs.Parcels.{ParcelImage}
 use Rattle.sr_node.specs.Images.{State}
-use Rattle.sr_plant_laws.specs.Lists.{Each}
+use Rattle.sr_laws_plant.specs.Lists.{Each}
 use Rattle.sr_plant.specs.declared.topology.Topology.{Topology}
 use Rattle.sr_plant.specs.declared.node_step.Given.{Given}
 use Rattle.sr_plant.specs.Copies.{Copy, is_stopped}

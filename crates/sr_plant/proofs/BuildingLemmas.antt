@@ -12,8 +12,8 @@ use Rattle.sr_forwarding.specs.declared.kind.RoleKind.{RoleKind}
 use Rattle.sr_forwarding.specs.contracts.kind.RoleKindPartialEq.TheImpl as kind
 use Rattle.sr_node.specs.Images.{State}
 use Rattle.sr_node.specs.Outboxes.{boxes_empty}
-use Rattle.sr_plant_laws.specs.Lists.{Each}
-use Rattle.sr_plant_laws.specs.TwoRings.{is_joined, AreJoins}
+use Rattle.sr_laws_plant.specs.Lists.{Each}
+use Rattle.sr_laws_plant.specs.TwoRings.{is_joined, AreJoins}
 use Rattle.sr_plant.specs.declared.shapes.RingLanShape.{RingLanShape}
 use Rattle.sr_plant.specs.declared.shapes.TwoRingsShape.{TwoRingsShape}
 use Rattle.sr_plant.specs.declared.shapes.Join.{Join}

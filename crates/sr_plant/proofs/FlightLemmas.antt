@@ -5,8 +5,8 @@ use Rattle.std.proofs.lemmas.Bool.Decides.{nat_tests}
 use Rattle.std.proofs.lemmas.List.{length-map, map-append, append-nil, take-map, drop-map}
 use Rattle.std.specs.List.{filter, remove}
 use Rattle.slab.specs.Slab.{Slab, get, Updates}
-use Rattle.sr_plant_laws.specs.Lists.{how_many}
-use Rattle.sr_plant_laws.specs.ListLemmas.{count_append}
+use Rattle.sr_laws_plant.specs.Lists.{how_many}
+use Rattle.sr_laws_plant.specs.ListLemmas.{count_append}
 use Rattle.sr_plant.specs.declared.flight.parcels.Kept.{Kept}
 use Rattle.sr_plant.specs.declared.flight.copies.Flying.{Flying}
 use Rattle.sr_plant.specs.Copies.{Copy, is_on}

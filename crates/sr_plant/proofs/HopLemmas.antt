@@ -7,13 +7,13 @@ use Rattle.std.proofs.lemmas.Bool.Decides.{nat_tests}
 use Rattle.std.proofs.lemmas.List.{map-append, append-nil}
 use Rattle.sr_frame.specs.declared.ports.Port.{Port}
 use Rattle.sr_frame.specs.declared.ports.Port.TheVariants.{H, A, B, C}
-use Rattle.sr_plant_laws.specs.Ledger.{Hop}
-use Rattle.sr_plant_laws.specs.RingParts.{onward, backward}
-use Rattle.sr_plant_laws.specs.Rings.{ring, beyond}
-use Rattle.sr_plant_laws.specs.TwinLans.{other_members, lan_hops, twin_lans}
-use Rattle.sr_plant_laws.specs.RingLans.{others, lan_copies, ring_lan}
-use Rattle.sr_plant_laws.specs.TwoRings.{shifted, over_hops, AreJoins, TwoShape, two_rings}
-use Rattle.sr_plant_laws.specs.Ways.{interlink_of}
+use Rattle.sr_laws_plant.specs.Ledger.{Hop}
+use Rattle.sr_laws_plant.specs.RingParts.{onward, backward}
+use Rattle.sr_laws_plant.specs.Rings.{ring, beyond}
+use Rattle.sr_laws_plant.specs.TwinLans.{other_members, lan_hops, twin_lans}
+use Rattle.sr_laws_plant.specs.RingLans.{others, lan_copies, ring_lan}
+use Rattle.sr_laws_plant.specs.TwoRings.{shifted, over_hops, AreJoins, TwoShape, two_rings}
+use Rattle.sr_laws_plant.specs.Ways.{interlink_of}
 use Rattle.sr_plant.specs.declared.shapes.RingLanShape.{RingLanShape}
 use Rattle.sr_plant.specs.declared.shapes.TwoRingsShape.{TwoRingsShape}
 use Rattle.sr_plant.specs.declared.topology.Topology.{Topology}

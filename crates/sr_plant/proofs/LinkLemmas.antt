@@ -5,8 +5,8 @@ use borrow.Author.Tests.{eqb-true}
 use Rattle.std.proofs.lemmas.List.{get_or-replicate, length-replicate}
 use Rattle.std.specs.List.{filter, remove}
 use Rattle.slab.specs.Slab.{Slab}
-use Rattle.sr_plant_laws.specs.Lists.{how_many}
-use Rattle.sr_plant_laws.specs.ListLemmas.{count_append}
+use Rattle.sr_laws_plant.specs.Lists.{how_many}
+use Rattle.sr_laws_plant.specs.ListLemmas.{count_append}
 use Rattle.sr_plant.specs.declared.hop.Hop.{Hop}
 use Rattle.sr_plant.specs.declared.flight.parcels.Kept.{Kept}
 use Rattle.sr_plant.specs.declared.flight.copies.Flying.{Flying}

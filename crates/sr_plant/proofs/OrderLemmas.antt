@@ -16,13 +16,13 @@ use Rattle.sr_node.specs.declared.event.Event.TheVariants as event
 use Rattle.sr_node.specs.Images.{State, time_at}
 use Rattle.sr_node.specs.Arriving.{Arrived, PassedTo, goes, going_on, header_at}
 use Rattle.sr_node.specs.Steps.{Step}
-use Rattle.sr_plant_laws.specs.Lists.{Each}
-use Rattle.sr_plant_laws.specs.ListLemmas.{each_append}
-use Rattle.sr_plant_laws.specs.Ledger.{Hop}
-use Rattle.sr_plant_laws.specs.Rings.{ring}
-use Rattle.sr_plant_laws.specs.TwinLans.{other_members, lan_hops}
-use Rattle.sr_plant_laws.specs.RingLans.{others, lan_copies, ring_lan}
-use Rattle.sr_plant_laws.specs.TwoRings.{TwoShape, shifted, over_hops, AreJoins, two_rings}
+use Rattle.sr_laws_plant.specs.Lists.{Each}
+use Rattle.sr_laws_plant.specs.ListLemmas.{each_append}
+use Rattle.sr_laws_plant.specs.Ledger.{Hop}
+use Rattle.sr_laws_plant.specs.Rings.{ring}
+use Rattle.sr_laws_plant.specs.TwinLans.{other_members, lan_hops}
+use Rattle.sr_laws_plant.specs.RingLans.{others, lan_copies, ring_lan}
+use Rattle.sr_laws_plant.specs.TwoRings.{TwoShape, shifted, over_hops, AreJoins, two_rings}
 use Rattle.sr_plant.specs.declared.shapes.RingLanShape.{RingLanShape}
 use Rattle.sr_plant.specs.declared.shapes.TwoRingsShape.{TwoRingsShape}
 use Rattle.sr_plant.specs.declared.topology.Topology.{Topology}

@@ -5,7 +5,7 @@ use Rattle.std.proofs.lemmas.List.{map-append, append-nil}
 use Rattle.std.proofs.lemmas.List.Elements.{filter-append}
 use Rattle.sr_frame.specs.declared.ports.Port.{Port}
 use Rattle.sr_forwarding.specs.Parcels.{ParcelImage}
-use Rattle.sr_plant_laws.specs.Ledger.{Hop}
+use Rattle.sr_laws_plant.specs.Ledger.{Hop}
 use Rattle.sr_plant.specs.declared.topology.Topology.{Topology}
 use Rattle.sr_plant.specs.Topologies.{IsJoinedAs}
 use Rattle.sr_plant.specs.Copies.{Copy, is_stopped}

@@ -3,7 +3,7 @@ use Rattle.std.specs.Prelude.{◌≡◌, ℕ, ◌==◌, Bool, false, List, [], �
 use Rattle.std.specs.List.{list_any}
 use Rattle.sr_frame.specs.declared.ports.Port.{Port}
 use Rattle.sr_forwarding.specs.Parcels.{ParcelImage}
-use Rattle.sr_plant_laws.specs.Ledger.{Hop}
+use Rattle.sr_laws_plant.specs.Ledger.{Hop}
 
 -- A copy in flight: where it leads and the links that it is on, the node and the outlet that put it out, and the parcel, whose octets are
 -- those that the framing of this outlet writes.

@@ -4,8 +4,8 @@ use Rattle.std.specs.Prelude.{slice_index_or, Option, None, Some, IsSome, option
 use Rattle.std.specs.List.{list_any}
 use Rattle.slab.specs.Slab.{Slab, get}
 use Rattle.sr_forwarding.specs.Parcels.{ParcelImage, plain_parcel}
-use Rattle.sr_plant_laws.specs.Ledger.{Hop as Step}
-use Rattle.sr_plant_laws.specs.Lists.{how_many}
+use Rattle.sr_laws_plant.specs.Ledger.{Hop as Step}
+use Rattle.sr_laws_plant.specs.Lists.{how_many}
 use Rattle.sr_plant.specs.declared.hop.Hop.{Hop}
 use Rattle.sr_plant.specs.declared.flight.parcels.Kept.{Kept}
 use Rattle.sr_plant.specs.declared.flight.copies.Flying.{Flying}

@@ -3,7 +3,7 @@ use Rattle.std.specs.Prelude.{◌≡◌, ℕ, ◌<◌, ◌≤◌, Bool, List, le
 use Rattle.sr_forwarding.specs.Parcels.{ParcelImage}
 use Rattle.sr_node.specs.Images.{State}
 use Rattle.sr_node.specs.Outboxes.{boxes_empty}
-use Rattle.sr_plant_laws.specs.Lists.{Each}
+use Rattle.sr_laws_plant.specs.Lists.{Each}
 use Rattle.sr_plant.specs.declared.topology.Topology.{Topology}
 use Rattle.sr_plant.specs.Limits.{most_members}
 use Rattle.sr_plant.specs.Topologies.{link_count, kind_of, IsJoinedAs}

@@ -7,11 +7,11 @@ use Rattle.sr_frame.specs.declared.ports.Port.{Port}
 use Rattle.sr_frame.specs.declared.ports.Port.TheVariants.{H, A, B, C}
 use Rattle.sr_forwarding.specs.Parcels.{ParcelImage}
 use Rattle.sr_node.specs.Outboxes.{Outboxes}
-use Rattle.sr_plant_laws.specs.Ledger.{Hop}
-use Rattle.sr_plant_laws.specs.RingParts.{onward, backward}
-use Rattle.sr_plant_laws.specs.Rings.{beyond}
-use Rattle.sr_plant_laws.specs.TwoRings.{shifted}
-use Rattle.sr_plant_laws.specs.Ways.{interlink_of}
+use Rattle.sr_laws_plant.specs.Ledger.{Hop}
+use Rattle.sr_laws_plant.specs.RingParts.{onward, backward}
+use Rattle.sr_laws_plant.specs.Rings.{beyond}
+use Rattle.sr_laws_plant.specs.TwoRings.{shifted}
+use Rattle.sr_laws_plant.specs.Ways.{interlink_of}
 use Rattle.sr_plant.specs.declared.shapes.RingLanShape.{RingLanShape}
 use Rattle.sr_plant.specs.declared.shapes.TwoRingsShape.{TwoRingsShape}
 use Rattle.sr_plant.specs.declared.topology.Topology.{Topology}

@@ -6,11 +6,11 @@ use Rattle.sr_forwarding.specs.Framings.{FramingImage}
 use Rattle.sr_forwarding.specs.Kinds.{carriage}
 use Rattle.sr_forwarding.specs.declared.kind.RoleKind.{RoleKind}
 use Rattle.sr_forwarding.specs.declared.kind.RoleKind.TheVariants.{Danp, Danh, Prp, Hsr}
-use Rattle.sr_plant_laws.specs.Ledger.{Net}
-use Rattle.sr_plant_laws.specs.Rings.{ring}
-use Rattle.sr_plant_laws.specs.TwinLans.{twin_lans}
-use Rattle.sr_plant_laws.specs.RingLans.{Shape, ring_lan}
-use Rattle.sr_plant_laws.specs.TwoRings.{TwoShape, two_rings, is_joined, AreJoins}
+use Rattle.sr_laws_plant.specs.Ledger.{Net}
+use Rattle.sr_laws_plant.specs.Rings.{ring}
+use Rattle.sr_laws_plant.specs.TwinLans.{twin_lans}
+use Rattle.sr_laws_plant.specs.RingLans.{Shape, ring_lan}
+use Rattle.sr_laws_plant.specs.TwoRings.{TwoShape, two_rings, is_joined, AreJoins}
 use Rattle.sr_plant.specs.declared.shapes.RingLanShape.{RingLanShape}
 use Rattle.sr_plant.specs.declared.shapes.TwoRingsShape.{TwoRingsShape}
 use Rattle.sr_plant.specs.declared.shapes.Join.{Join}

@@ -1,8 +1,8 @@
 //! The hops round a ring.
 
 ghost use Rattle.std.specs.Prelude.{◌≡◌, ◌<◌, None, IfSome, option_map};
-ghost use Rattle.sr_plant_laws.specs.RingParts.{onward, backward};
-ghost use Rattle.sr_plant_laws.specs.Rings.{beyond};
+ghost use Rattle.sr_laws_plant.specs.RingParts.{onward, backward};
+ghost use Rattle.sr_laws_plant.specs.Rings.{beyond};
 ghost use Rattle.sr_plant.specs.Flights.{hop_of};
 ghost use Rattle.sr_plant.specs.Puts.{ring_hop_to, LeadsOnlyTo};
 

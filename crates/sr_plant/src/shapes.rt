@@ -1,7 +1,7 @@
 //! The shapes of coupled networks.
 
 ghost use Rattle.std.specs.Prelude.{◌≡◌, ◌==◌, ◌||◌, length};
-ghost use Rattle.sr_plant_laws.specs.TwoRings.{is_joined};
+ghost use Rattle.sr_laws_plant.specs.TwoRings.{is_joined};
 ghost use Rattle.sr_plant.specs.Topologies.{kind_in_ring, joins_of};
 
 use sr_forwarding::{NetId, RoleKind};

@@ -6,7 +6,7 @@ use Rattle.std.proofs.lemmas.Bool.Decides.{nat_tests}
 use Rattle.sr_forwarding.specs.declared.kind.RoleKind.{RoleKind}
 use Rattle.sr_forwarding.specs.contracts.kind.RoleKindPartialEq.TheImpl as kind
 use Rattle.sr_frame.specs.Addresses.{mac_eq}
-use Rattle.sr_plant_laws.specs.TwoRings.{is_joined}
+use Rattle.sr_laws_plant.specs.TwoRings.{is_joined}
 use Rattle.sr_plant.specs.declared.topology.Topology.{Topology}
 use Rattle.sr_plant.specs.declared.topology.Topology.TheVariants.{Ring, TwinLan, RingLan, TwoRings}
 use Rattle.sr_plant.specs.Topologies.{kind_of, joins_of}

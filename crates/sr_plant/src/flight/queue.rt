@@ -1,7 +1,7 @@
 //! The queue of the copies in flight, which knows of each link how many of them are on it.
 
 ghost use Rattle.std.specs.Prelude.{◌≡◌, ◌≤◌, ◌<◌, ◌+◌, ◌↔◌, ℕ, true, List, [], ◌∷◌, ◌++◌, length, remove, slice_index_or, IfOk, OnOk, IsSome, IfSome};
-ghost use Rattle.sr_plant_laws.specs.Lists.{how_many};
+ghost use Rattle.sr_laws_plant.specs.Lists.{how_many};
 ghost use Rattle.sr_plant.specs.declared.flight.copies.Flying.{Flying};
 ghost use Rattle.sr_plant.specs.Flights.{is_over};
 

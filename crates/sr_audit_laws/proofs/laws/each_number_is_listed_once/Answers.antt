@@ -1,5 +1,0 @@
-use Rattle.sr_audit_laws.proofs.RunLemmas.{each_once}
-use Rattle.sr_audit_laws.proofs.laws.each_number_is_listed_once.Goals as goal
-
-pub returns : goal.returns
-returns c = each_once

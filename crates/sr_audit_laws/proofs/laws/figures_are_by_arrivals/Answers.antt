@@ -1,5 +1,0 @@
-use Rattle.sr_audit_laws.proofs.ExactLemmas.{figures_are}
-use Rattle.sr_audit_laws.proofs.laws.figures_are_by_arrivals.Goals as goal
-
-pub returns : goal.returns
-returns c = figures_are

@@ -1,5 +1,0 @@
-use Rattle.sr_audit_laws.proofs.FigureLemmas.{whole_no_fault}
-use Rattle.sr_audit_laws.proofs.laws.whole_audits_tell_no_fault.Goals as goal
-
-pub returns : goal.returns
-returns c = whole_no_fault

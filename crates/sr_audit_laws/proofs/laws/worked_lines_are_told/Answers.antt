@@ -1,5 +1,0 @@
-use Rattle.sr_audit_laws.proofs.ListCaseLemmas.{worked_out}
-use Rattle.sr_audit_laws.proofs.laws.worked_lines_are_told.Goals as goal
-
-pub returns : goal.returns
-returns c = worked_out

@@ -1,5 +1,0 @@
-use Rattle.sr_box_laws.proofs.CrossingLemmas.{lan_to_ring}
-use Rattle.sr_box_laws.proofs.laws.frames_cross_from_lan_to_ring.Goals as goal
-
-pub returns : goal.returns
-returns c = lan_to_ring

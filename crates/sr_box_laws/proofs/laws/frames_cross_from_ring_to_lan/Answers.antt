@@ -1,5 +1,0 @@
-use Rattle.sr_box_laws.proofs.CrossingLemmas.{ring_to_lan}
-use Rattle.sr_box_laws.proofs.laws.frames_cross_from_ring_to_lan.Goals as goal
-
-pub returns : goal.returns
-returns c = ring_to_lan

@@ -1,5 +1,0 @@
-use Rattle.sr_box_laws.proofs.MemberLemmas.{hsr_boxes}
-use Rattle.sr_box_laws.proofs.laws.hsr_boxes_are_members.Goals as goal
-
-pub returns : goal.returns
-returns c = hsr_boxes

@@ -1,5 +1,0 @@
-use Rattle.sr_box_laws.proofs.CrossingLemmas.{new_in_ring}
-use Rattle.sr_box_laws.proofs.laws.new_frames_are_read_in_rings.Goals as goal
-
-pub returns : goal.returns
-returns c = new_in_ring

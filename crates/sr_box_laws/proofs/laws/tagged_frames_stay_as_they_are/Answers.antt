@@ -1,5 +1,0 @@
-use Rattle.sr_box_laws.proofs.CrossingLemmas.{stays_tagged}
-use Rattle.sr_box_laws.proofs.laws.tagged_frames_stay_as_they_are.Goals as goal
-
-pub returns : goal.returns
-returns c = stays_tagged

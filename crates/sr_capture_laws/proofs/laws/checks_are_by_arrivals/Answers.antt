@@ -1,5 +1,0 @@
-use Rattle.sr_capture_laws.proofs.ExactLemmas.{checks_are}
-use Rattle.sr_capture_laws.proofs.laws.checks_are_by_arrivals.Goals as goal
-
-pub returns : goal.returns
-returns c = checks_are

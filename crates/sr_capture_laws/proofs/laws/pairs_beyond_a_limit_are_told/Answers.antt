@@ -1,5 +1,0 @@
-use Rattle.sr_capture_laws.proofs.WideLemmas.{wide_told}
-use Rattle.sr_capture_laws.proofs.laws.pairs_beyond_a_limit_are_told.Goals as goal
-
-pub returns : goal.returns
-returns c = wide_told

@@ -1,5 +1,0 @@
-use Rattle.sr_capture_laws.proofs.SeeingLemmas.{sight_is}
-use Rattle.sr_capture_laws.proofs.laws.sight_is_by_arrivals.Goals as goal
-
-pub returns : goal.returns
-returns c = sight_is

@@ -1,5 +1,0 @@
-use Rattle.sr_dup_joins.proofs.GrowthLemmas.{answers_by_the_union}
-use Rattle.sr_dup_joins.proofs.laws.answers_by_the_union.Goals as goal
-
-pub returns : goal.returns
-returns c = answers_by_the_union

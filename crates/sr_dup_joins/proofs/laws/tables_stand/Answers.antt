@@ -1,5 +1,0 @@
-use Rattle.sr_dup_joins.proofs.GrowthLemmas.{tables_stand}
-use Rattle.sr_dup_joins.proofs.laws.tables_stand.Goals as goal
-
-pub returns : goal.returns
-returns c = tables_stand

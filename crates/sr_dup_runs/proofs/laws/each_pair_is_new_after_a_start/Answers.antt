@@ -1,5 +1,0 @@
-use Rattle.sr_dup_runs.proofs.StartLemmas.{each_pair_is_new_after_a_start}
-use Rattle.sr_dup_runs.proofs.laws.each_pair_is_new_after_a_start.Goals as goal
-
-pub returns : goal.returns
-returns c = each_pair_is_new_after_a_start

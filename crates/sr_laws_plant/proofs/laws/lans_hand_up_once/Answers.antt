@@ -1,0 +1,5 @@
+use Rattle.sr_laws_plant.proofs.LanLawLemmas.{lans_hand_up_once}
+use Rattle.sr_laws_plant.proofs.laws.lans_hand_up_once.Goals as goal
+
+pub returns : goal.returns
+returns c = lans_hand_up_once

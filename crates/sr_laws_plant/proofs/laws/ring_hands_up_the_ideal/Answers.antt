@@ -1,0 +1,5 @@
+use Rattle.sr_laws_plant.proofs.RingLawLemmas.{ring_hands_up_the_ideal}
+use Rattle.sr_laws_plant.proofs.laws.ring_hands_up_the_ideal.Goals as goal
+
+pub returns : goal.returns
+returns c = ring_hands_up_the_ideal

@@ -1,0 +1,3 @@
+pub mod JournalLaws
+pub mod Turns
+pub mod LogLaws

@@ -1,5 +1,0 @@
-use Rattle.sr_plant_laws.proofs.CutLan.{cut_lan_loses_nothing}
-use Rattle.sr_plant_laws.proofs.laws.a_cut_lan_loses_nothing.Goals as goal
-
-pub returns : goal.returns
-returns c = cut_lan_loses_nothing

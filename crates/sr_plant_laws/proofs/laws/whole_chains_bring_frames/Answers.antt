@@ -1,5 +1,0 @@
-use Rattle.sr_plant_laws.proofs.LanWayLemmas.{whole_chains_bring}
-use Rattle.sr_plant_laws.proofs.laws.whole_chains_bring_frames.Goals as goal
-
-pub returns : goal.returns
-returns c = whole_chains_bring

@@ -1,2 +1,0 @@
-pub mod JournalLaws
-pub mod Turns

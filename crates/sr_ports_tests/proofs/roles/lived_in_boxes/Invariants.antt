@@ -1,4 +1,0 @@
-use Rattle.sr_ports_tests.proofs.roles.lived_in_boxes.Given as goal
-
-abbrev pub ghosts-lived : goal.ghosts-lived
-ghosts-lived g a = record { name = a.blank.name; parts = a.blank.parts }

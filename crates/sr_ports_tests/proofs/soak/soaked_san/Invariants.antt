@@ -1,4 +1,0 @@
-use Rattle.sr_ports_tests.proofs.soak.soaked_san.Given as goal
-
-abbrev pub ghosts-soaked : goal.ghosts-soaked
-ghosts-soaked g a = record { name = a.blank.name; parts = a.blank.parts }

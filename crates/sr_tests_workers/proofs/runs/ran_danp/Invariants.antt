@@ -1,0 +1,4 @@
+use Rattle.sr_tests_workers.proofs.runs.ran_danp.Given as goal
+
+abbrev pub ghosts-ran : goal.ghosts-ran
+ghosts-ran g a = record { name = a.blank.name; parts = a.blank.parts }

@@ -1,4 +1,0 @@
-use Rattle.sr_workers_tests.proofs.boxes.with_node.Given as goal
-
-abbrev pub ghosts-ran : goal.ghosts-ran
-ghosts-ran g a = record { name = a.blank.name; parts = a.blank.parts }

@@ -1,4 +1,0 @@
-use Rattle.sr_workers_tests.proofs.rotating.rotated_danp.Given as goal
-
-abbrev pub ghosts-rotated : goal.ghosts-rotated
-ghosts-rotated g a = record { name = a.blank.name; parts = a.blank.parts }
