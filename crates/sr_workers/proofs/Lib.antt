@@ -1,5 +1,6 @@
 pub mod Bringing
 pub mod Calling
+pub mod Carrying
 pub mod Lists
 pub mod Rows
 pub mod Steps

@@ -1,10 +1,7 @@
 //! A worker at work, and what it brings to its node.
 
-ghost use Rattle.std.specs.Prelude.{◌≡◌, ◌≢◌, ◌≤◌, ◌+◌, ◌<◌, ◌^◌, ◌∷◌, ◌++◌, [], None, Some, IfOk, IfErr, OnOk, OnErr, MatchBool, vec_capacity};
-ghost use Rattle.sr_node.specs.declared.event.Answer.{Answer};
-ghost use Rattle.sr_node.specs.Answers.{IsAnswerOf};
-ghost use Rattle.sr_workers.specs.declared.fault.WorkerFault.TheVariants.{FeedFault as Failed};
-ghost use Rattle.sr_workers.specs.Posts.{HasFrameRoom, Logged, StopsAtEvent, BringsTo, CallsFor};
+ghost use Rattle.std.specs.Prelude.{◌+◌, ◌<◌, ◌^◌, IfOk};
+ghost use Rattle.sr_workers.specs.Posts.{BringsTurn, EntersEvent, HasFrameRoom};
 
 use crate::becoming::{Becoming, event_of};
 use crate::fault::stop_of;
@@ -60,17 +57,7 @@ fn enter_logged<E: Enters, F: Feed, W: Wait>(
     post: &mut Post<E, F>,
     event: Event,
 ) -> Result<bool, WorkerFault>
-    ensures whose { E.whose post.new.seat ≡ E.whose post.old.seat }
-    ensures worker { post.new.log.worker ≡ post.old.log.worker }
-    ensures feed { post.new.feed ≡ post.old.feed }
-    ensures unread { post.new.unread ≡ post.old.unread }
-    ensures held { post.new.held ≡ post.old.held }
-    ensures ok { IfOk result (λ entered.
-        Logged E.enters E.count entered event post.old post.new) }
-    ensures stops { IfErr result (λ reason. StopsAtEvent E.enters reason event post.old post.new) }
-    ensures fault { IfErr result (λ f. f ≢ Failed) }
-    ensures count { OnErr result (E.count post.new.seat ≡ E.count post.old.seat) }
-    ensures pairs { OnErr result (post.new.log.pairs.items ≡ post.old.log.pairs.items) }
+    ensures { EntersEvent E.Enters event post.old result post.new }
 {
     if let Err(refused) = post.log.reserve() {
         return Err(refused.into());
@@ -97,21 +84,7 @@ pub(crate) fn bring<E: Enters, F: Feed, G: Framing, W: Wait>(
     octets: &[u8],
 ) -> Result<(), WorkerFault>
     requires { post.old.unread + 1 < 2 ^ 64 }
-    ensures whose { E.whose post.new.seat ≡ E.whose post.old.seat }
-    ensures worker { post.new.log.worker ≡ post.old.log.worker }
-    ensures feed { post.new.feed ≡ post.old.feed }
-    ensures unread { post.new.unread ≤ post.old.unread + 1 }
-    ensures held { post.new.held ≡ post.old.held }
-    ensures ok { OnOk result (BringsTo E.whose E.count (G.meaning framing.now) turn octets.now
-        post.old post.new) }
-    ensures calls { OnOk result (CallsFor E.enters E.whose (G.meaning framing.now) turn octets.now
-        None post.old post.new) }
-    ensures stops { IfErr result (λ reason. CallsFor E.enters E.whose (G.meaning framing.now)
-        turn octets.now (Some reason) post.old post.new) }
-    ensures fault { IfErr result (λ f. f ≢ Failed) }
-    ensures count { OnErr result (E.count post.new.seat ≡ E.count post.old.seat) }
-    ensures pairs { OnErr result (post.new.log.pairs.items ≡ post.old.log.pairs.items) }
-    ensures uncounted { OnErr result (post.new.unread ≡ post.old.unread) }
+    ensures { BringsTurn E.Enters (G.meaning framing.now) turn octets.now post.old result post.new }
 {
     let worker = post.seat.worker();
     let event = match event_of(alloc, framing, worker, turn, octets) {

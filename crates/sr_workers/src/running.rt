@@ -1,12 +1,12 @@
 //! One worker.
 
-ghost use Rattle.std.specs.Prelude.{◌≡◌, ◌≤◌, ◌+◌, ◌<◌, ◌^◌, [], true, false, Some, None, MatchBool, MatchOption, IfOk, OnOk, IfErr, OnErr};
+ghost use Rattle.std.specs.Prelude.{◌≡◌, ◌+◌, ◌<◌, ◌^◌, [], None, MatchBool, MatchOption};
 ghost use Rattle.sr_ports.specs.declared.worker.Worker.TheVariants.{Ager};
 ghost use Rattle.sr_workers.specs.declared.feed.Turn.TheVariants.{End};
 ghost use Rattle.sr_workers.specs.Calls.{Called};
 ghost use Rattle.sr_workers.specs.Told.{turns_in};
-ghost use Rattle.sr_workers.specs.Posts.{CallsOf, Does, DoesLast, HasFrameRoom, post_moment};
-ghost use Rattle.sr_workers.specs.Work.{Finished, Stopped, ServesPort, nones_of};
+ghost use Rattle.sr_workers.specs.Posts.{CanTakeOut, HandsBack, MakesTurn, MakesTurns};
+ghost use Rattle.sr_workers.specs.Work.{ServesPort, nones_of};
 ghost use Rattle.sr_workers.specs.Worked.{Worked, worker_begun, ended};
 
 use crate::post::{Lists, Post, bring};
@@ -51,26 +51,8 @@ fn one_turn<E: Enters, F: Feed, G: Framing, W: Wait>(
     lists: &mut Lists,
 ) -> Result<bool, WorkerFault>
     requires unread { post.old.unread + 1 < 2 ^ 64 }
-    requires held { post.old.held ≡ None }
-    requires room { HasFrameRoom lists.old }
-    ensures whose { E.whose post.new.seat ≡ E.whose post.old.seat }
-    ensures worker { post.new.log.worker ≡ post.old.log.worker }
-    ensures name { F.name post.new.feed ≡ F.name post.old.feed }
-    ensures tells { F.tells post.new.feed ≡ F.tells post.old.feed }
-    ensures unread { post.new.unread ≤ post.old.unread + 1 }
-    ensures room { OnOk result (HasFrameRoom lists.new) }
-    ensures held { OnOk result (post.new.held ≡ None) }
-    ensures ok { IfOk result (λ more. MatchBool more
-        (Does E.whose E.count F.tells F.handed F.asked F.given F.losses F.failed
-        (G.meaning framing.now) (nones_of (E.whose post.old.seat) 1) 1 post.old post.new)
-        ((F.ended post.new.feed ≡ true) × Does E.whose E.count F.tells F.handed F.asked F.given
-        F.losses F.failed (G.meaning framing.now) 0 0 post.old post.new)) }
-    ensures calls { OnOk result (CallsOf E.enters E.whose F.tells F.handed (G.meaning framing.now)
-        None post.old post.new) }
-    ensures stops { IfErr result (λ reason. CallsOf E.enters E.whose F.tells F.handed
-        (G.meaning framing.now) (Some reason) post.old post.new) }
-    ensures err { IfErr result (λ fault. DoesLast E.whose E.count F.tells F.handed F.asked F.given
-        F.losses F.failed (G.meaning framing.now) fault post.new.held post.old post.new) }
+    requires ready { CanTakeOut post.old lists.old }
+    ensures { MakesTurn E.Enters F.Feed (G.meaning framing.now) post.old result post.new lists.new }
 {
     let turn = match post.feed.next(rt, &mut lists.incoming) {
         Ok(turn) => turn,
@@ -102,23 +84,7 @@ fn make_turns<E: Enters, F: Feed, G: Framing, W: Wait>(
 ) -> Result<(), WorkerFault>
     requires unread { post.old.unread ≡ 0 }
     requires held { post.old.held ≡ None }
-    ensures whose { E.whose post.new.seat ≡ E.whose post.old.seat }
-    ensures worker { post.new.log.worker ≡ post.old.log.worker }
-    ensures name { F.name post.new.feed ≡ F.name post.old.feed }
-    ensures held { OnOk result (post.new.held ≡ None) }
-    ensures ok { OnOk result (Finished (F.tells post.old.feed) (E.whose post.old.seat)
-        (G.meaning framing.now) turns
-        (post_moment E.count F.handed F.asked F.given F.losses F.failed post.old)
-        (post_moment E.count F.handed F.asked F.given F.losses F.failed post.new)
-        (F.ended post.new.feed)) }
-    ensures calls { OnOk result (CallsOf E.enters E.whose F.tells F.handed (G.meaning framing.now)
-        None post.old post.new) }
-    ensures stops { IfErr result (λ reason. CallsOf E.enters E.whose F.tells F.handed
-        (G.meaning framing.now) (Some reason) post.old post.new) }
-    ensures err { IfErr result (λ fault. Stopped (F.tells post.old.feed) (E.whose post.old.seat)
-        (G.meaning framing.now) turns fault post.new.held
-        (post_moment E.count F.handed F.asked F.given F.losses F.failed post.old)
-        (post_moment E.count F.handed F.asked F.given F.losses F.failed post.new)) }
+    ensures { MakesTurns E.Enters F.Feed (G.meaning framing.now) turns post.old result post.new }
 {
     let mut lists = match Lists::new(alloc) {
         Ok(lists) => lists,
@@ -136,12 +102,7 @@ fn make_turns<E: Enters, F: Feed, G: Framing, W: Wait>(
 
 // What a worker hands back.
 fn ended_as<E: Enters, F: Feed>(post: Post<E, F>, fault: Option<WorkerFault>) -> (E, WorkerEnd<F>)
-    ensures seat { result.0 ≡ post.seat }
-    ensures feed { result.1.feed ≡ post.feed }
-    ensures log { result.1.log ≡ post.log }
-    ensures unread { result.1.unread ≡ post.unread }
-    ensures fault { result.1.fault ≡ fault }
-    ensures held { result.1.held ≡ post.held }
+    ensures { HandsBack post fault result.0 result.1 }
 {
     let Post {
         seat,

@@ -1,9 +1,7 @@
 //! What a worker takes out of its node.
 
-ghost use Rattle.std.specs.Prelude.{◌≡◌, ◌≢◌, ◌≤◌, ◌<◌, ◌+◌, ◌++◌, ◌∷◌, [], true, None, Some, IfOk, OnOk, IfErr, OnErr, vec_len, vec_capacity, if◌then◌else◌};
-ghost use Rattle.sr_forwarding.specs.Encoding.{write_fault};
-ghost use Rattle.sr_workers.specs.Posts.{CallsOf, Does, DoesLast, HasFrameRoom};
-ghost use Rattle.sr_workers.specs.Turns.{Out};
+ghost use Rattle.std.specs.Prelude.{◌≡◌, ◌≤◌, ◌<◌, ◌++◌, ◌∷◌, [], None, vec_len, vec_capacity};
+ghost use Rattle.sr_workers.specs.Posts.{CanTakeOut, PutsOut, TakesParcels, none_by};
 ghost use Rattle.sr_workers.specs.Work.{ServesPort};
 
 use crate::fault::stop_of;
@@ -26,19 +24,7 @@ fn put_out<F: Feed, G: Framing, W: Wait>(
 ) -> Result<(), FeedFault>
     requires { MAX_FRAME_LEN ≤ vec_capacity outgoing.old }
     ensures room { MAX_FRAME_LEN ≤ vec_capacity outgoing.new }
-    ensures name { F.name feed.new ≡ F.name feed.old }
-    ensures tells { F.tells feed.new ≡ F.tells feed.old }
-    ensures handed { F.tells feed.old ≡ true → F.handed feed.new ≡ F.handed feed.old }
-    ensures asked { F.tells feed.old ≡ true → F.asked feed.new ≡ F.asked feed.old }
-    ensures ended { F.ended feed.new ≡ F.ended feed.old }
-    ensures ok { OnOk result (Out (F.tells feed.old) (G.meaning framing.now) parcel.now
-        (F.given feed.old) (F.given feed.new) (F.losses feed.old) (F.losses feed.new)) }
-    ensures written { OnErr result (write_fault (G.meaning framing.now) parcel.now ≡ None) }
-    ensures given { OnErr result (F.tells feed.old ≡ true
-        → F.given feed.new ≡ F.given feed.old) }
-    ensures losses { OnErr result (F.losses feed.new ≡ F.losses feed.old) }
-    ensures failed { OnErr result (F.failed feed.old < F.failed feed.new) }
-    ensures counted { F.failed feed.old ≤ F.failed feed.new }
+    ensures put { PutsOut F.Feed (G.meaning framing.now) parcel.now feed.old result feed.new }
 {
     want_of_memory_is_no_fault_of_a_parcel();
     outgoing.clear();
@@ -88,24 +74,9 @@ fn take_one<E: Enters, F: Feed, G: Framing, W: Wait>(
     lists: &mut Lists,
 ) -> Result<bool, WorkerFault>
     requires serves { ServesPort (E.whose post.old.seat) port }
-    requires held { post.old.held ≡ None }
-    requires room { HasFrameRoom lists.old }
-    ensures whose { E.whose post.new.seat ≡ E.whose post.old.seat }
-    ensures worker { post.new.log.worker ≡ post.old.log.worker }
-    ensures unread { post.new.unread ≡ post.old.unread }
-    ensures name { F.name post.new.feed ≡ F.name post.old.feed }
-    ensures tells { F.tells post.new.feed ≡ F.tells post.old.feed }
-    ensures ended { F.ended post.new.feed ≡ F.ended post.old.feed }
-    ensures room { OnOk result (HasFrameRoom lists.new) }
-    ensures held { OnOk result (post.new.held ≡ None) }
-    ensures ok { IfOk result (λ some. Does E.whose E.count F.tells F.handed F.asked F.given
-        F.losses F.failed (G.meaning framing.now) (if some then 0 else 1) 0 post.old post.new) }
-    ensures calls { OnOk result (CallsOf E.enters E.whose F.tells F.handed (G.meaning framing.now)
-        None post.old post.new) }
-    ensures stops { IfErr result (λ reason. CallsOf E.enters E.whose F.tells F.handed
-        (G.meaning framing.now) (Some reason) post.old post.new) }
-    ensures err { IfErr result (λ fault. DoesLast E.whose E.count F.tells F.handed F.asked F.given
-        F.losses F.failed (G.meaning framing.now) fault post.new.held post.old post.new) }
+    requires ready { CanTakeOut post.old lists.old }
+    ensures { TakesParcels E.Enters F.Feed (G.meaning framing.now) (none_by result) post.old result
+        post.new lists.new }
 {
     if let Err(refused) = post.log.reserve() {
         return Err(refused.into());
@@ -153,24 +124,9 @@ pub(crate) fn drain<E: Enters, F: Feed, G: Framing, W: Wait>(
     lists: &mut Lists,
 ) -> Result<(), WorkerFault>
     requires serves { ServesPort (E.whose post.old.seat) port }
-    requires held { post.old.held ≡ None }
-    requires room { HasFrameRoom lists.old }
-    ensures whose { E.whose post.new.seat ≡ E.whose post.old.seat }
-    ensures worker { post.new.log.worker ≡ post.old.log.worker }
-    ensures unread { post.new.unread ≡ post.old.unread }
-    ensures name { F.name post.new.feed ≡ F.name post.old.feed }
-    ensures tells { F.tells post.new.feed ≡ F.tells post.old.feed }
-    ensures ended { F.ended post.new.feed ≡ F.ended post.old.feed }
-    ensures room { OnOk result (HasFrameRoom lists.new) }
-    ensures held { OnOk result (post.new.held ≡ None) }
-    ensures ok { OnOk result (Does E.whose E.count F.tells F.handed F.asked F.given
-        F.losses F.failed (G.meaning framing.now) 1 0 post.old post.new) }
-    ensures calls { OnOk result (CallsOf E.enters E.whose F.tells F.handed (G.meaning framing.now)
-        None post.old post.new) }
-    ensures stops { IfErr result (λ reason. CallsOf E.enters E.whose F.tells F.handed
-        (G.meaning framing.now) (Some reason) post.old post.new) }
-    ensures err { IfErr result (λ fault. DoesLast E.whose E.count F.tells F.handed F.asked F.given
-        F.losses F.failed (G.meaning framing.now) fault post.new.held post.old post.new) }
+    requires ready { CanTakeOut post.old lists.old }
+    ensures { TakesParcels E.Enters F.Feed (G.meaning framing.now) 1 post.old result post.new
+        lists.new }
 {
     for _ in rt.forever() {
         match take_one(rt, framing, port, post, lists) {
