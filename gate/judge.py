@@ -183,6 +183,12 @@ def question(root, name, only):
 
 # Reading what the prover says.
 
+
+def unbroken(said):
+    """What the prover says, each message in one line: it breaks off what is long, and goes on further in."""
+    return re.sub(r"\n  +", " ", said)
+
+
 GONE = re.compile(r"has no field|is not in scope|has no `|was not admitted|can be named from here")
 
 
@@ -197,14 +203,14 @@ UNFOUND = re.compile(r"no proof: expected answers in .*; `search` did not prove 
 
 def line_of(said, crate, function):
     """What is said of the function as a whole."""
-    found = re.search(rf"^fn {crate}::{re.escape(function.path)}: (.*)$", said, re.M)
+    found = re.search(rf"^fn {crate}::{re.escape(function.path)}: (.*)$", unbroken(said), re.M)
     return found[1] if found else ""
 
 
 def open_goal(said, function):
     """The first goal of the function that stays open, as the prover names it. A proof that only names what is gone is none."""
     own, closures = function.proofs()
-    for line in said.split("\n"):
+    for line in unbroken(said).split("\n"):
         inside = re.match(r"note: (src/\S+?):(\d+):\d+: (.*)", line)
         if inside and inside[1] == function.file and function.first <= int(inside[2]) <= function.last and "not proved" in inside[3]:
             return named_in(inside[3])
@@ -276,7 +282,7 @@ def verdict_on_whole(said, functions):
 
 def reaches(said, crate, caller, callee):
     """Whether a function is not tried for this callee, straight or by others between."""
-    seen, left = set(), [caller.path]
+    said, seen, left = unbroken(said), set(), [caller.path]
     while left:
         found = re.search(rf"^fn {crate}::{re.escape(left.pop())}: .*?it calls (.*)$", said, re.M)
         for path in re.findall(rf"`{crate}::([\w:]+)`", found[1] if found else ""):

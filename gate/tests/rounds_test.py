@@ -157,6 +157,41 @@ class Rounds(Workspace):
         said = "fn sr_one::state::Core::with_keys: no proof: expected answers in ./proofs/Answers.antt"
         self.assertEqual(judge.verdict_on(said, "sr_one", function)[0], judge.UNKNOWN)
 
+    def test_a_message_that_the_prover_breaks_off(self):
+        function = judge.Function("running::run", "src/running.rt", 3, 9)
+        at = "./proofs/running/run/Answers.antt:5:14: error: `returns`: "
+        for gone in ("record `Rattle.sr_one.proofs.running.run.Lts.After`\n  has no field `flush`", "`goal.flush-requires`\n  module `Goals`\n    has no `flush-requires`"):
+            said = f"{at}{gone}\n  these can be named: `args`\nfn sr_one::running::run: not proved"
+            self.assertEqual(judge.verdict_on(said, "sr_one", function)[0], judge.UNKNOWN, gone)
+        said = f"{at}`a + b`\n  is no proof of `b + a`\nfn sr_one::running::run: not proved"
+        self.assertEqual(judge.verdict_on(said, "sr_one", function), (judge.REFUSED, "`returns` of running::run"))
+        said = "fn sr_one::running::run: no proof: expected answers in ./proofs/Answers.antt;\n  `search` did not prove `returns`"
+        self.assertEqual(judge.verdict_on(said, "sr_one", function)[0], judge.REFUSED)
+
+    def test_a_proof_that_names_what_is_gone_in_a_long_message(self):
+        name = "a_step_that_leads_nowhere_whose_name_is_so_long_that_the_prover_breaks_its_message_before_it_says_what_is_gone"
+        behind = f"""
+// One step further, behind one that leads nowhere.
+fn step_behind(n: u64) -> u64
+    requires {{ n ≤ 40 }}
+    ensures {{ result ≡ n + 3 }}
+{{
+    let {name} = step(n);
+    step(n)
+}}
+"""
+        proof = f"""use Rattle.std.proofs.Common.{{arith}}
+use Rattle.small.proofs.step_behind.Goals as goal
+
+pub step-{name}-requires : goal.step-{name}-requires
+step-{name}-requires c = omega arith
+"""
+        self.write("crates/small/proofs/step_behind/Answers.antt", proof)
+        edits = {"names_the_step_otherwise": (f"    let {name} = step(n);", "    let nowhere = step(n);"), "steps_from_one": ("    step(n)", "    step(1)")}
+        said, status, last, whole = self.tried(edits, SOURCE + behind)
+        self.assertEqual(said, {"names_the_step_otherwise": "NOT TRIED", "steps_from_one": "refused"}, whole)
+        self.assertEqual((status, last), (1, "1 passed, 1 failed"))
+
     def test_a_crate_that_is_not_proved(self):
         broken = SOURCE.replace("    n + n", "    n + 1 + n")
         said, status, _, whole = self.tried({"steps_twice": WRONG["steps_twice"]}, broken)
