@@ -20,7 +20,7 @@ import tempfile
 from pathlib import Path
 
 import page_networks
-from pages import AUDITS, ROOT
+from pages import ROOT, audits
 
 BROWSER, DRIVER = Path("/usr/bin/chromium"), Path("/usr/bin/chromedriver")
 WIDE, NARROW = 1280, 400
@@ -149,15 +149,6 @@ class Browser:
         return self.flaws
 
 
-def audits(work):
-    """What is audited: the captures of gate/pages.py, and networks that are made in a folder."""
-    yield from AUDITS.items()
-    for name, make in page_networks.NETWORKS.items():
-        folder = work / make.__name__
-        folder.mkdir()
-        yield name, [*make(folder), "--complete"]
-
-
 def main():
     parser = argparse.ArgumentParser(description=__doc__.split("\n", maxsplit=1)[0])
     parser.add_argument("--program", default=str(ROOT / "seamless"))
@@ -178,7 +169,7 @@ def main():
     browser = Browser(webdriver, Service)
     try:
         with tempfile.TemporaryDirectory() as work:
-            for name, audit in audits(Path(work)):
+            for name, audit in audits(Path(work), page_networks.NETWORKS):
                 page = Path(work, f"page-{seen}.html")
                 page.write_bytes(subprocess.run([given.program, "audit", *audit, "--format", "html"], cwd=ROOT, stdin=subprocess.DEVNULL, capture_output=True).stdout)
                 browser.look_at(page.as_uri(), given.pictures and given.pictures / f"page-{seen}")

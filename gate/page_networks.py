@@ -1,4 +1,5 @@
-"""Captures of PRP networks for pages: one with a dozen faults, one with 1024 sources, all of which have faults, and a ring that loses frames."""
+"""Captures of PRP networks for pages: one with a dozen faults, one with 1024 sources, all of which have faults, a ring that loses frames, and
+one that loses more than a page has room for."""
 import random
 import struct
 
@@ -100,4 +101,25 @@ def ring(folder):
     return ["--network", "hsr", *put(folder, sources)]
 
 
-NETWORKS = {"a dozen faults": dozen, "1024 sources with losses": many, "a ring with losses": ring}
+def crowd(folder):
+    """70 sources in 8 s, each of which loses single frames on A, on B and on both. Three more lose a frame more on both. Of these one loses a dozen
+    rows of three on B; of one the numbers come round within a row that A lost; and one loses four frames on B, each more than a second behind the
+    one before."""
+    rng, end = random.Random(4), 8 * SECOND
+    sources = []
+    for at in range(70):
+        frames = steady(rng, Sender(at + 1), SECOND // 5, end)
+        frames = without(frames, 0, lambda number, time: number % 6 == 2)
+        frames = without(frames, 1, lambda number, time: number % 6 == 4)
+        sources.append(without(frames, None, lambda number, time: number % 18 == 9))
+    rows = steady(rng, Sender(71), SECOND // 25, end)
+    sources.append(without(rows, 1, lambda number, time: 10 <= number < 106 and number % 8 < 3))
+    round_again = steady(rng, Sender(72), SECOND // 25, end, first=65_500)
+    sources.append(without(round_again, 0, lambda number, time: 33 <= number < 39))
+    sources.append(without(steady(rng, Sender(73), SECOND // 5, end), 1, lambda number, time: number in (5, 12, 19, 26)))
+    for at in (70, 71, 72):
+        sources[at] = without(sources[at], None, lambda number, time: number in (2, 21, 30))
+    return put(folder, sources)
+
+
+NETWORKS = {"a dozen faults": dozen, "1024 sources with losses": many, "a ring with losses": ring, "more losses than a page has": crowd}

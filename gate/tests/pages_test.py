@@ -7,7 +7,7 @@ import unittest
 from pathlib import Path
 
 sys.path.insert(0, str(Path(__file__).resolve().parent.parent))
-from pages import Page, differences  # noqa: E402
+from pages import Page, differences, fact_differences, first_in, loss_differences, order_differences  # noqa: E402
 
 STYLE, SCRIPT = "b{color:red}\n", "run();\n"
 
@@ -55,6 +55,45 @@ class Pages(unittest.TestCase):
         source["only_a"] = 3
         self.assertEqual(list(differences(own, lines)), ["02:00:00:00:00:01 has ['4', '2', '1', '0'], and not ['4', '2', '3', '0']"])
         self.assertEqual(list(differences(page(""), lines[:1]))[0], "the verdict is not FAIL")
+
+    def test_lost_frames_that_are_not_those_of_the_objects_are_found(self):
+        mac = "02:00:00:00:00:01"
+        lines = [{"line": "source", "source": mac, "only_a": 0, "only_b": 3, "neither": 1}]
+        rows = "".join(
+            f'<tr><td class="num" data-v="{at}">0.1</td><td data-v="{mac}">a</td><td class="num">{at}</td><td>{place}</td></tr>\n'
+            for at, place in enumerate(["both", "LAN A", "LAN A", "LAN A"])
+        )
+        body = (
+            f'<figure class="chart lanes"><svg class="plot lane"></svg></figure><article class="card" id="s-{mac}">'
+            '<h4>Lost on both LANs</h4><ul class="stretches">\n<li>1\u00a0frame at 1 s</li>\n</ul>'
+            '<h4>Lost on LAN A</h4><ul class="stretches">\n<li>2\u00a0frames at 1 s</li>\n<li>1 more in further rows.</li>\n</ul>'
+            f"</article><table>\n{rows}</table>"
+        )
+        self.assertEqual(list(loss_differences(page(body), lines)), [])
+        for wrong, flaw in [
+            (body.replace("1 more", "2 more"), f"by numbers {mac} lost"),
+            (body.replace("<h4>Lost on LAN A", "<h4>Lost on LAN B"), f"by numbers {mac} lost"),
+            (body.replace('class="card"', 'class="none"'), "there are 0 cards"),
+            (body.replace('class="plot lane"', 'class="plot"'), "there are 0 lanes"),
+            (body.replace("<td>LAN A</td></tr>\n</table>", "</tr>\n</table>"), "one by one 3 lost frames"),
+            (body.replace("<td>both</td>", "<td>LAN A</td>"), "one by one 4 lost frames"),
+        ]:
+            with self.subTest(flaw):
+                self.assertIn(flaw, "".join(loss_differences(page(wrong), lines)))
+
+    def test_sources_that_stand_in_another_order_are_found(self):
+        lines = [{"line": "source", "source": f"a{at}", "neither": at, "only_a": 0, "only_b": 0, "repeat_a": 0, "repeat_b": 0} for at in range(2)]
+        first, second = (f'<tr><th data-v="a{at}">a</th></tr>' for at in range(2))
+        self.assertEqual(list(order_differences(page(f"<table>{second}{first}</table>"), lines)), [])
+        self.assertEqual(len(list(order_differences(page(f"<table>{first}{second}</table>"), lines))), 1)
+
+    def test_another_first_packet_or_clock_is_found(self):
+        path = "examples/linux-prp-lan-a.pcap"
+        self.assertEqual(first_in(path), 1_700_000_000 * 10**9)
+        body = "<dl><dt>First packet</dt><dd>2023-11-14T22:13:20.000000Z</dd></dl>as the captures have them"
+        self.assertEqual(list(fact_differences(page(body), [], ["--a", path])), [])
+        self.assertEqual(len(list(fact_differences(page(body.replace(":20.", ":21.")), [], ["--a", path]))), 1)
+        self.assertEqual(len(list(fact_differences(page(body), [{"line": "clocks", "b_ahead_us": 5.0, "pairs": 7}], ["--a", path]))), 1)
 
 
 if __name__ == "__main__":
