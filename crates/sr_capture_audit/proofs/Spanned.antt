@@ -20,9 +20,10 @@ use Rattle.sr_capture_script.specs.Passing.{Handed, wanted, IsHandedAs}
 use Rattle.sr_capture_audit.specs.Timing.{all_put_right}
 use Rattle.sr_capture_audit.specs.declared.network.Subject.{Subject}
 use Rattle.sr_capture_audit.specs.declared.network.Tap.{Tap}
+use Rattle.sr_capture_audit.specs.declared.spanning.Beside.{Beside}
 use Rattle.sr_capture_audit.specs.declared.spanning.Spanning.{Spanning}
 use Rattle.sr_capture_audit.specs.Auditing.{tap_at}
-use Rattle.sr_capture_audit.specs.Spanning.{IsSideOf, CameBy, AreTimed, is_by, times_by, AreSpansOf, SpansMore, AreSpansOfAll}
+use Rattle.sr_capture_audit.specs.Spanning.{IsSideOf, CameBy, AreTimed, is_by, times_by, AreSpansOf, SpansMore, SpansBeside, AreSpansOfAll}
 
 -- a time more
 last_more : (first : ℕ) (times : List ℕ) (time : ℕ) → last_of first (times ++ time ∷ []) ≡ time
@@ -145,3 +146,15 @@ spans_all choice x y z old new merged came none all =
     ))
     (all_put_right old.subject.clock (wanted choice merged)) old new (refl, none) all in
     record { merged = merged; came = came; of_all = end.1 }
+
+-- beside another pass, each packet is taken for the spans, at its time by the clock of A
+pub spans_folded : {P : Type 0} (takes : P → Handed → P → Type 0) (old : Beside P) (xs : List Handed) (new : Beside P) →
+    FoldsTo (λ o h n. SpansBeside takes h o n) old xs new →
+    FoldsTo (λ o h n. SpansMore h o n) old.spanning (all_put_right old.spanning.subject.clock xs) new.spanning
+spans_folded takes old [] new same = ap (λ (b : Beside _). b.spanning) same
+spans_folded takes old (x ∷ xs) new h = (
+  h.0.spanning,
+  h.1.spans,
+  subst (λ c. FoldsTo (λ o h n. SpansMore h o n) h.0.spanning (all_put_right c xs) new.spanning) (ap (λ (s : Subject). s.clock) h.1.spans.subject)
+      (spans_folded takes h.0 xs new h.2),
+)

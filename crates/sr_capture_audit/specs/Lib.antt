@@ -13,3 +13,4 @@ pub mod Clocking
 pub mod Spanning
 pub mod Judging
 pub mod Timing
+pub mod PassLemmas

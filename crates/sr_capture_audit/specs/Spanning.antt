@@ -16,10 +16,11 @@ use Rattle.sr_capture_audit.specs.declared.network.Network.{Network}
 use Rattle.sr_capture_audit.specs.declared.network.Subject.{Subject}
 use Rattle.sr_capture_audit.specs.declared.network.Tap.{Tap}
 use Rattle.sr_capture_audit.specs.declared.network.Tap.TheVariants as tap
+use Rattle.sr_capture_audit.specs.declared.spanning.Beside.{Beside}
 use Rattle.sr_capture_audit.specs.declared.spanning.Spanning.{Spanning}
 use Rattle.sr_capture_audit.specs.Auditing.{tap_at}
 use Rattle.sr_capture_audit.specs.Kinds.{IsKind}
-use Rattle.sr_capture_audit.specs.Timing.{all_put_right}
+use Rattle.sr_capture_audit.specs.Timing.{put_right, all_put_right}
 
 -- the side that a frame with a number came in by; other packets name none
 abbrev pub side_named : Kind → Option Side
@@ -62,6 +63,11 @@ pub record AreSpansOf (subject : Subject) (xs : List Handed) (spans : Spans) : T
 pub record SpansMore (x : Handed) (old new : Spanning) : Type 0 where
   pub subject : new.subject ≡ old.subject
   pub spans : (xs : List Handed) → AreSpansOf old.subject xs old.spans → AreSpansOf old.subject (xs ++ x ∷ []) new.spans
+
+-- a packet is taken for the spans, at its time by the clock of A, and by the other pass
+pub record SpansBeside {P : Type 0} (takes : P → Handed → P → Type 0) (x : Handed) (old new : Beside P) : Type 0 where
+  pub spans : SpansMore (put_right old.spanning.subject.clock x) old.spanning new.spanning
+  pub other : takes old.other x new.other
 
 -- the spans of three files: of all their packets that are wanted
 pub record AreSpansOfAll (choice : Choice) (subject : Subject) (x y z : Feed) (spans : Spans) : Type 0 where

@@ -38,5 +38,5 @@ pub use network::{Network, Ports, Subject};
 pub use redboxes::RedBoxes;
 pub use rows::{Field, Format, Value, print_row};
 pub use ruling::{Rule, Ruling, ruled_of};
-pub use spanning::spans_of;
+pub use spanning::spans_beside;
 pub use telling::{TakesTold, Told, tell_fates};

@@ -8,7 +8,6 @@ mod names;
 mod nodes;
 mod page;
 mod passes;
-mod streams;
 mod subjects;
 mod verdict;
 mod ways;
@@ -19,7 +18,7 @@ use crate::dated::{Dated, Dating};
 use crate::script::tell_ended;
 use cuts::Cuts;
 use hints::tell_odd;
-use nodes::read_nodes;
+use nodes::{Seen, read_seen};
 use passes::{Read, read_all, read_front};
 use sr_advice::letter_of;
 use sr_audit::Spans;
@@ -29,7 +28,6 @@ use sr_command_io::{Ended, Pipe, Progress, Sides, beside, check_order};
 use sr_dates::Moment;
 use sr_options::{AuditTask, Format, Paths, Times};
 use sr_slots::Keys;
-use sr_sources::Sources;
 use sr_verdict::{Limits, Verdict};
 use std::io::{self, BufWriter, Printer};
 use std::random::RandomSource;
@@ -86,10 +84,10 @@ fn read_and_judge<R: AllocGlobal + Eprint + Files>(
     keys: Keys,
     known: Known,
     progress: Progress,
-) -> Result<(Read, Sources, Vec<Verdict>), Ended> {
+) -> Result<(Read, Seen, Vec<Verdict>), Ended> {
     let subject = subject_on(rt, task, known)?;
-    let read = read_all(rt, task, subject, keys, progress)?;
-    let ((sources, dropped), read) = beside(read_nodes(rt, task, keys), read)?;
+    let seen = read_seen(rt, task, subject, keys, progress)?;
+    let (read, seen) = beside(read_all(rt, task, subject, keys, seen.spans), seen)?;
     let limits = Limits {
         lost: task.max_lost,
         skew: task.max_skew,
@@ -97,14 +95,14 @@ fn read_and_judge<R: AllocGlobal + Eprint + Files>(
     let verdicts = judge(
         rt,
         &read.report,
-        &sources,
+        &seen.sources,
         known,
         read.are_both_ways,
-        dropped,
+        seen.dropped,
         limits,
     );
-    let (verdicts, (read, sources)) = beside(verdicts, (read, sources))?;
-    Ok((read, sources, verdicts))
+    let (verdicts, (read, seen)) = beside(verdicts, (read, seen))?;
+    Ok((read, seen, verdicts))
 }
 
 /// How times are told. That of the earliest packet is by the clock of its recorder, or by that of A where B's was put right.
@@ -167,7 +165,7 @@ fn run_on_clocks<R: AllocGlobal + Print + Eprint + Files>(
     progress: Progress,
 ) -> Result<(), Stop> {
     let judged = read_and_judge(rt, task, keys, known, progress)?;
-    let (mut writer, (read, sources, verdicts)) = beside(writer_of(rt, task), judged)?;
+    let (mut writer, (read, seen, verdicts)) = beside(writer_of(rt, task), judged)?;
     let Read { times, report, .. } = read;
     let summary = report.summary();
     let written = write_all(
@@ -178,11 +176,11 @@ fn run_on_clocks<R: AllocGlobal + Print + Eprint + Files>(
         times,
         report,
         &summary,
-        &sources,
+        &seen,
         &verdicts,
         &mut writer,
     );
-    drop(sources);
+    drop(seen);
     let told = match written {
         Ok(()) => tell_end(rt, task, cuts, &times.recorded, &summary, &verdicts),
         Err(ended) => {

@@ -57,6 +57,7 @@ use Rattle.sr_sources.specs.declared.source.Event.TheVariants.{Frame, Alive, Beh
 use Rattle.sr_sources.specs.declared.table.Sources.{Sources}
 use Rattle.sr_sources.specs.Limits.{most_sources}
 use Rattle.sr_sources.specs.Sources.{Noted, AreSourcesOf, IsPassedOver}
+use Rattle.sr_capture_sources.specs.declared.sighting.Beside.{Beside}
 use Rattle.sr_capture_sources.specs.declared.sighting.Sighting.{Sighting}
 
 -- The LAN of a capture, if it is one of the audit. A mirror port has the frames of both, which are taken as those of LAN A.
@@ -159,6 +160,11 @@ pub record SightsMore (x : Handed) (old new : Sighting) : Type 0 where
   pub own : List Noted
   pub is_own : AreToldAt old.subject (lan_at old.subject.ports x.inlet) x own
   pub takes : (told : List Noted) → KeepsSources told old.sources → KeepsSources (own ++ told) new.sources
+
+-- a packet is taken for the sources, and by the other pass
+pub record SightsBeside {P : Type 0} (takes : P → Handed → P → Type 0) (x : Handed) (old new : Beside P) : Type 0 where
+  pub sighted : SightsMore x old.sighting new.sighting
+  pub other : takes old.other x new.other
 
 -- the sources of three files: of all their packets that are wanted
 pub record AreSourcesOfAll (choice : Choice) (subject : Subject) (x y z : Feed) (sources : Sources) : Type 0 where

@@ -5,4 +5,4 @@ mod lines;
 mod sighting;
 
 pub use lines::print_nodes;
-pub use sighting::sources_of;
+pub use sighting::{Told, sources_beside};

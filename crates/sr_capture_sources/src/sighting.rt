@@ -1,10 +1,11 @@
 //! Going over captures for what is told of their sources.
 
-ghost use Rattle.std.specs.Prelude.{◌≡◌, ◌++◌, ◌∷◌, ◌&&◌, [], true, false, is_some, List, ℕ, Option, OnOk, IfOk, IfErr};
+ghost use Rattle.std.specs.Prelude.{◌≡◌, ◌⊎◌, ◌++◌, ◌∷◌, ◌&&◌, [], true, false, is_some, List, ℕ, Option, OnOk, IfOk, IfErr};
 ghost use Rattle.sr_capture.specs.Records.{Captured, Shows};
+ghost use Rattle.sr_capture_audit.specs.Spanning.{AreSpansOfAll};
 ghost use Rattle.sr_capture_script.specs.declared.choice.Inlet.TheVariants.{A as AtA, B as AtB, C as AtC};
 ghost use Rattle.sr_capture_script.specs.Merging.{feed_of};
-ghost use Rattle.sr_capture_script.specs.Passing.{EndsFor};
+ghost use Rattle.sr_capture_script.specs.Passing.{TakesWanted, EndsFor};
 ghost use Rattle.sr_capture_script.specs.SourceViews.{IsFed};
 ghost use Rattle.sr_forwarding.specs.Decoding.{IsRead, IsUnread};
 ghost use Rattle.sr_forwarding.specs.Octets.{is_supervision};
@@ -29,9 +30,10 @@ ghost use Rattle.sr_capture_sources.specs.Sighting.{
   AreSourcesOfAll,
 };
 
+use sr_audit::Spans;
 use sr_capture::{Extent, MAX_KEPT, Packet};
-use sr_capture_audit::{Network, Ports, Subject};
-use sr_capture_script::{Captures, Choice, Inlet, Pass, Place, ScriptFault, pass_over};
+use sr_capture_audit::{Network, Ports, Subject, spans_beside};
+use sr_capture_script::{Captures, Choice, Inlet, Pass, Place, ScriptFault};
 use sr_forwarding::{Framing, HsrFraming, ParcelView, PrpFraming, ReadFault};
 use sr_frame::Mac;
 use sr_prp_trailer::Lan;
@@ -266,37 +268,97 @@ impl Pass for Sighting {
     }
 }
 
-/// The sources of which the wanted packets tell, of both captures or of a mirror port.
+/// The sources so far, beside another pass.
+#[derive(Drop)]
+struct Beside<P> {
+    sighting: Sighting,
+    other: P,
+}
+
+impl<P: Pass> Pass for Beside<P> {
+    ghost use Rattle.std.specs.Prelude.{◌≡◌, ◌⊎◌};
+    ghost use Rattle.sr_capture_script.specs.declared.fault.ScriptFault.TheVariants.{NoMemory as OutOfMemory};
+    ghost use Rattle.sr_capture_sources.specs.Sighting.{SightsBeside};
+
+    ghost takes = { λ old x new. SightsBeside P.takes x old new };
+
+    ghost refuses = { λ fault. (fault ≡ OutOfMemory) ⊎ P.refuses fault };
+
+    fn take(&mut self, place: Place, packet: &Packet) -> Result<(), ScriptFault> {
+        self.sighting.take(place, packet)?;
+        self.other.take(place, packet)
+    }
+}
+
+/// What one reading of captures tells beside another pass.
+#[derive(Drop)]
+pub struct Told<P> {
+    /// When the captures begin and end.
+    pub spans: Spans,
+    /// The sources of which the packets tell.
+    pub sources: Sources,
+    /// The other pass, once it took them.
+    pub other: P,
+}
+
+/// When the captures begin and end, and the sources of which the wanted packets tell, of both captures or of a mirror port, by one reading
+/// with another pass.
 ///
 /// # Errors
-/// The fault of a file, `NoMemory`, or `Endless` behind 2^64 - 1 packets.
-pub fn sources_of<R: BufRead + Drop>(
+/// The fault of a file, `NoMemory`, those of the other pass, or `Endless` behind 2^64 - 1 packets.
+pub fn sources_beside<R: BufRead + Drop, P: Pass + Drop>(
     alloc: Global,
     keys: Keys,
     captures: &mut Captures<R>,
     choice: &Choice,
     subject: Subject,
-) -> Result<Sources, ScriptFault>
+    other: P,
+) -> Result<Told<P>, ScriptFault>
+    // The spans are those of all packets that are wanted.
+    ensures spans { IfOk result (λ told. (start_a start_b start_c : Option (List ℕ))
+        → IsFed R.remaining AtA start_a captures.old.a []
+        → IsFed R.remaining AtB start_b captures.old.b []
+        → IsFed R.remaining AtC start_c captures.old.c []
+        → AreSpansOfAll choice.now subject (feed_of captures.old.a start_a)
+        (feed_of captures.old.b start_b) (feed_of captures.old.c start_c) told.spans) }
+
     // The sources are those of all packets that are wanted, of each all that these tell of it.
-    ensures sources { IfOk result (λ sources. (start_a start_b start_c : Option (List ℕ))
+    ensures sources { IfOk result (λ told. (start_a start_b start_c : Option (List ℕ))
         → IsFed R.remaining AtA start_a captures.old.a []
         → IsFed R.remaining AtB start_b captures.old.b []
         → IsFed R.remaining AtC start_c captures.old.c []
         → AreSourcesOfAll choice.now subject (feed_of captures.old.a start_a)
-        (feed_of captures.old.b start_b) (feed_of captures.old.c start_c) sources) }
+        (feed_of captures.old.b start_b) (feed_of captures.old.c start_c) told.sources) }
 
-    // What ends it early is a fault of a file, behind all of its packets that came, more packets than are counted, or memory.
+    // The other pass takes each of these packets once, in order of time.
+    ensures takes { IfOk result (λ told. (start_a start_b start_c : Option (List ℕ))
+        → IsFed R.remaining AtA start_a captures.old.a []
+        → IsFed R.remaining AtB start_b captures.old.b []
+        → IsFed R.remaining AtC start_c captures.old.c []
+        → TakesWanted P.takes choice.now (feed_of captures.old.a start_a)
+        (feed_of captures.old.b start_b) (feed_of captures.old.c start_c) other told.other) }
+
+    // What ends it early is a fault of a file, behind all of its packets that came, more packets than are counted, memory, or a
+    // fault of the other pass.
     ensures ends { IfErr result (λ fault. (start_a start_b start_c : Option (List ℕ))
         → IsFed R.remaining AtA start_a captures.old.a []
         → IsFed R.remaining AtB start_b captures.old.b []
         → IsFed R.remaining AtC start_c captures.old.c []
-        → EndsFor (λ own. own ≡ ScriptFault.NoMemory) (feed_of captures.old.a start_a)
-        (feed_of captures.old.b start_b) (feed_of captures.old.c start_c) fault) }
+        → EndsFor (λ own. (own ≡ ScriptFault.NoMemory) ⊎ P.refuses own)
+        (feed_of captures.old.a start_a) (feed_of captures.old.b start_b)
+        (feed_of captures.old.c start_c) fault) }
 {
-    let mut sighting = Sighting {
-        subject,
-        sources: Sources::new(alloc, keys),
+    let pass = Beside {
+        sighting: Sighting {
+            subject,
+            sources: Sources::new(alloc, keys),
+        },
+        other,
     };
-    pass_over(captures, choice, &mut sighting)?;
-    Ok(sighting.sources)
+    let told = spans_beside(captures, choice, subject, pass)?;
+    Ok(Told {
+        spans: told.0,
+        sources: told.1.sighting.sources,
+        other: told.1.other,
+    })
 }

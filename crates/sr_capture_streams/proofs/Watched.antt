@@ -11,7 +11,7 @@ use Rattle.sr_capture_script.specs.Passing.{Handed, wanted, IsHandedAs, TakesWan
 use Rattle.sr_frame.specs.declared.fields.Mac.{Mac}
 use Rattle.sr_streams.specs.Messages.{Said}
 use Rattle.sr_streams.specs.Tables.{MessageSent, AreStreamsOf}
-use Rattle.sr_capture_streams.specs.declared.watching.Watch.{Watch}
+use Rattle.sr_capture_streams.specs.declared.watching.StreamWatch.{StreamWatch}
 use Rattle.sr_capture_streams.specs.Watching.{SaysOfStream, SaysNothing, IsSentIn, message, no_message, AreSentIn, WatchesMore, AreStreamsOfAll}
 
 -- a packet more
@@ -21,12 +21,12 @@ sent_more (y ∷ ys) sent x own h is =
     (h.0, own ++ h.1, ap (λ l. own ++ l) h.2 ∙ sym (append_assoc own h.1 h.0), h.3, sent_more ys h.1 x own h.4 is)
 
 -- a packet that says nothing of a stream
-pub watched_none : (place : Place) (shown : Packet) (x : Handed) (old : Watch) → IsHandedAs place shown x →
+pub watched_none : (place : Place) (shown : Packet) (x : Handed) (old : StreamWatch) → IsHandedAs place shown x →
     ((captured : Captured) → Shows shown captured → SaysNothing captured) → WatchesMore x old old
 watched_none place shown x old is nothing = record { own = []; is_own = no_message (nothing x.packet is.shows) refl; takes = λ sent few h. h }
 
 -- a message
-pub watched_one : (place : Place) (shown : Packet) (x : Handed) (old new : Watch) (src : Mac) (says : Said) → IsHandedAs place shown x →
+pub watched_one : (place : Place) (shown : Packet) (x : Handed) (old new : StreamWatch) (src : Mac) (says : Said) → IsHandedAs place shown x →
     ((captured : Captured) → Shows shown captured → SaysOfStream captured src says) →
     ((sent : List MessageSent) → length sent + 1 < 2 ^ 64 → AreStreamsOf sent old.streams → AreStreamsOf (record { src = src; says = says; time = place.time } ∷ sent) new.streams) →
     WatchesMore x old new
@@ -39,7 +39,7 @@ watched_one place shown x old new src says is said noted =
     }
 
 -- all packets were watched
-pub watched_all : (choice : Choice) (x y z : Feed) (old new : Watch) → AreStreamsOf [] old.streams →
+pub watched_all : (choice : Choice) (x y z : Feed) (old new : StreamWatch) → AreStreamsOf [] old.streams →
     TakesWanted (λ o h n. WatchesMore h o n) choice x y z old new → AreStreamsOfAll choice x y z new.streams
 watched_all choice x y z old new none all =
     let end = chained_keeps (λ o h n. WatchesMore h o n)

@@ -11,7 +11,7 @@ use Rattle.sr_frame.specs.declared.fields.Mac.{Mac}
 use Rattle.sr_streams.specs.declared.table.Streams.{Streams}
 use Rattle.sr_streams.specs.Messages.{Said, frame_says}
 use Rattle.sr_streams.specs.Tables.{MessageSent, AreStreamsOf}
-use Rattle.sr_capture_streams.specs.declared.watching.Watch.{Watch}
+use Rattle.sr_capture_streams.specs.declared.watching.StreamWatch.{StreamWatch}
 
 -- a packet is a frame from this source that says this
 pub record SaysOfStream (packet : Captured) (src : Mac) (says : Said) : Type 0 where
@@ -36,8 +36,12 @@ AreSentIn [] sent = sent ≡ []
 AreSentIn (x ∷ xs) sent =
     (own : List MessageSent) × (later : List MessageSent) × (sent ≡ later ++ own) × IsSentIn x own × AreSentIn xs later
 
+-- a pass that took no packet
+abbrev pub IsNewWatch : StreamWatch → Type 0
+IsNewWatch watch = AreStreamsOf [] watch.streams
+
 -- the streams of one packet more
-pub record WatchesMore (x : Handed) (old new : Watch) : Type 0 where
+pub record WatchesMore (x : Handed) (old new : StreamWatch) : Type 0 where
   pub own : List MessageSent
   pub is_own : IsSentIn x own
   pub takes : (sent : List MessageSent) → length (own ++ sent) < 2 ^ 64 →

@@ -5,4 +5,4 @@ mod lines;
 mod watching;
 
 pub use lines::print_streams;
-pub use watching::streams_of;
+pub use watching::StreamWatch;

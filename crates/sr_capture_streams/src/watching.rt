@@ -1,25 +1,44 @@
-//! Going over captures for the messages of streams.
+//! A pass over captures for the messages of streams.
 
-ghost use Rattle.std.specs.Prelude.{◌≡◌, [], List, ℕ, Option, MatchOption, IfOk, IfErr};
+ghost use Rattle.std.specs.Prelude.{MatchOption};
 ghost use Rattle.sr_capture.specs.Records.{Captured, Shows};
-ghost use Rattle.sr_capture_script.specs.declared.choice.Inlet.TheVariants.{A as AtA, B as AtB, C as AtC};
-ghost use Rattle.sr_capture_script.specs.Merging.{feed_of};
-ghost use Rattle.sr_capture_script.specs.Passing.{EndsFor};
-ghost use Rattle.sr_capture_script.specs.SourceViews.{IsFed};
+ghost use Rattle.sr_capture_script.specs.declared.choice.Choice.{Choice};
+ghost use Rattle.sr_capture_script.specs.Merging.{Feed};
+ghost use Rattle.sr_capture_script.specs.Passing.{TakesWanted};
 ghost use Rattle.sr_streams.specs.Views.{said};
-ghost use Rattle.sr_capture_streams.specs.Watching.{SaysOfStream, SaysNothing, AreStreamsOfAll};
+ghost use Rattle.sr_capture_streams.specs.Watching.{SaysOfStream, SaysNothing, IsNewWatch, WatchesMore, AreStreamsOfAll};
 
 use sr_capture::{MAX_KEPT, Packet};
-use sr_capture_script::{Captures, Choice, Pass, Place, ScriptFault, pass_over};
+use sr_capture_script::{Pass, Place, ScriptFault};
 use sr_frame::{Mac, view};
 use sr_streams::{Message, Streams, read};
 use std::alloc::Global;
-use std::io::BufRead;
 
-/// The streams so far.
+/// A pass over captures that keeps the streams of which the packets so far are messages: a message counts once, by whichever capture it
+/// came.
 #[derive(Drop)]
-struct Watch {
+pub struct StreamWatch {
     streams: Streams,
+}
+
+impl StreamWatch {
+    /// A pass that took no packet.
+    pub fn new(alloc: Global) -> StreamWatch
+        ensures { IsNewWatch result }
+    {
+        StreamWatch {
+            streams: Streams::new(alloc),
+        }
+    }
+
+    /// The streams whose messages the packets are that it took.
+    pub fn into_streams(self) -> Streams
+        ensures { (choice : Choice) (x y z : Feed) (new : StreamWatch) → IsNewWatch new
+            → TakesWanted (λ old h watch. WatchesMore h old watch) choice x y z new self
+            → AreStreamsOfAll choice x y z result }
+    {
+        self.streams
+    }
 }
 
 /// The source of a packet that is a message of a stream, and what it says.
@@ -37,7 +56,7 @@ fn message_in(packet: &Packet) -> Option<(Mac, Message<'_>)>
     Some((frame.src, message))
 }
 
-impl Pass for Watch {
+impl Pass for StreamWatch {
     ghost use Rattle.std.specs.Prelude.{◌≡◌};
     ghost use Rattle.sr_capture_script.specs.declared.fault.ScriptFault.TheVariants.{NoMemory as OutOfMemory};
     ghost use Rattle.sr_capture_streams.specs.Watching.{WatchesMore};
@@ -53,36 +72,4 @@ impl Pass for Watch {
         self.streams.note(src, place.time, &message)?;
         Ok(())
     }
-}
-
-/// The streams whose messages the packets are that are wanted, of all captures: a message counts once, by whichever it came.
-///
-/// # Errors
-/// The fault of a file, `NoMemory`, or `Endless` behind 2^64 - 1 packets.
-pub fn streams_of<R: BufRead + Drop>(
-    alloc: Global,
-    captures: &mut Captures<R>,
-    choice: &Choice,
-) -> Result<Streams, ScriptFault>
-    // The streams are those of all packets of all captures that are wanted.
-    ensures streams { IfOk result (λ streams. (start_a start_b start_c : Option (List ℕ))
-        → IsFed R.remaining AtA start_a captures.old.a []
-        → IsFed R.remaining AtB start_b captures.old.b []
-        → IsFed R.remaining AtC start_c captures.old.c []
-        → AreStreamsOfAll choice.now (feed_of captures.old.a start_a)
-        (feed_of captures.old.b start_b) (feed_of captures.old.c start_c) streams) }
-
-    // What ends it early is a fault of a file, behind all of its packets that came, more packets than are counted, or memory.
-    ensures ends { IfErr result (λ fault. (start_a start_b start_c : Option (List ℕ))
-        → IsFed R.remaining AtA start_a captures.old.a []
-        → IsFed R.remaining AtB start_b captures.old.b []
-        → IsFed R.remaining AtC start_c captures.old.c []
-        → EndsFor (λ own. own ≡ ScriptFault.NoMemory) (feed_of captures.old.a start_a)
-        (feed_of captures.old.b start_b) (feed_of captures.old.c start_c) fault) }
-{
-    let mut watch = Watch {
-        streams: Streams::new(alloc),
-    };
-    pass_over(captures, choice, &mut watch)?;
-    Ok(watch.streams)
 }

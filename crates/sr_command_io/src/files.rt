@@ -23,6 +23,15 @@ pub struct Opened<'a, R: Files> {
     reader: BufReader<Metered<'a, Joined<R::File>, R>>,
 }
 
+impl<R: Eprint + Files> Opened<'_, R> {
+    /// Reads more where nothing is at hand. It is out of line, so that octets at hand cost one question.
+    #[inline(never)]
+    fn refill(&mut self) -> io::Result<()> {
+        self.reader.fill_buf()?;
+        Ok(())
+    }
+}
+
 impl<R: Eprint + Files> Read for Opened<'_, R> {
     fn read(&mut self, buf: &mut [u8]) -> io::Result<usize> {
         self.reader.read(buf)
@@ -31,7 +40,9 @@ impl<R: Eprint + Files> Read for Opened<'_, R> {
 
 impl<R: Eprint + Files> BufRead for Opened<'_, R> {
     fn fill_buf(&mut self) -> io::Result<&[u8]> {
-        self.reader.fill_buf()?;
+        if self.reader.buffer().is_empty() {
+            self.refill()?;
+        }
         Ok(self.reader.buffer())
     }
 

@@ -7,9 +7,11 @@ use sr_audit::Spans;
 use sr_audit_charts::{Kept, MAX_CHARTS, lines_in, print_picture, rank, times_of};
 use sr_capture_audit::{
     Format, Lists, Network, Ports, Report, Subject, Summary, figures_of, hint_of, print_lists,
-    spans_of, tell_fates,
+    tell_fates,
 };
 use sr_capture_script::{Captures, Options, ScriptFault};
+use sr_capture_sources::sources_beside;
+use sr_capture_streams::StreamWatch;
 use sr_slots::Keys;
 use std::alloc::Global;
 
@@ -71,7 +73,15 @@ fn open<'a>(alloc: Global, audited: &Audited<'a>) -> Result<Captures<&'a [u8]>, 
 /// When the captures begin and end.
 fn read_spans(alloc: Global, audited: &Audited<'_>) -> Result<Spans, ScriptFault> {
     let mut captures = open(alloc, audited)?;
-    spans_of(&mut captures, &audited.options.choice, audited.subject)
+    let told = sources_beside(
+        alloc,
+        audited.keys,
+        &mut captures,
+        &audited.options.choice,
+        audited.subject,
+        StreamWatch::new(alloc),
+    )?;
+    Ok(told.spans)
 }
 
 /// The figures.

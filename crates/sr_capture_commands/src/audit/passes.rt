@@ -1,11 +1,11 @@
-//! The passes of an audit over its captures: two where nothing was lost, and one or two more for what tells of losses.
+//! The passes of an audit over its captures for figures: one where nothing was lost, and one or two more for what tells of losses.
 
 use crate::audit::losses::{read_losses, read_missing};
 use crate::audit::subjects::subject_at;
 use crate::audit::ways::have_both_ways;
 use sr_audit::{Audit, Span, Spans};
 use sr_capture_audit::{
-    Flows, Gathered, Report, Rule, Subject, flows_in, gathered_of, inner_spans, ruled_of, spans_of,
+    Flows, Gathered, Report, Rule, Subject, flows_in, gathered_of, inner_spans, ruled_of,
 };
 use sr_capture_script::{Captures, Front};
 use sr_clocks::Line;
@@ -45,19 +45,6 @@ pub(crate) fn read_front<R: AllocGlobal + Eprint + Files>(
     let front = captures.front();
     drop(captures);
     Ok(front)
-}
-
-/// When the captures begin and end, by a pass of its own.
-fn read_spans<R: AllocGlobal + Eprint + Files>(
-    rt: &R,
-    task: &AuditTask<'_>,
-    subject: Subject,
-    progress: Progress,
-) -> Result<Spans, Ended> {
-    let mut captures = open(rt, task, progress)?;
-    let spans = spans_of(&mut captures, &task.options.choice, subject);
-    drop(captures);
-    Ok(spans?)
 }
 
 /// From the beginning of the earlier capture to the end of the later one.
@@ -167,15 +154,14 @@ pub(crate) struct Read {
     pub(crate) are_both_ways: bool,
 }
 
-/// What is known of the captures before anything is written.
+/// What is known of captures that begin and end so, before anything is written.
 pub(crate) fn read_all<R: AllocGlobal + Eprint + Files>(
     rt: &R,
     task: &AuditTask<'_>,
     subject: Subject,
     keys: Keys,
-    progress: Progress,
+    recorded: Spans,
 ) -> Result<Read, Ended> {
-    let recorded = read_spans(rt, task, subject, progress)?;
     let audited = audited_spans(task, recorded);
     let first = read_gathered(rt, task, subject, keys, audited, None, None)?;
     let are_both_ways = have_both_ways(rt, task, keys, first.report.has_repeated());

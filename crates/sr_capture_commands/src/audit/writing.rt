@@ -1,9 +1,9 @@
 //! What an audit writes to standard output: what is told of the network, the figures, and lists, or a picture or a page.
 
 use crate::audit::drawn::draw;
+use crate::audit::nodes::Seen;
 use crate::audit::page::print_page;
 use crate::audit::passes::{Times, open, read_flows};
-use crate::audit::streams::write_streams;
 use crate::audit::subjects::subject_at;
 use crate::clocks::Known;
 use crate::meanings::{lines_of, lists_of};
@@ -11,10 +11,10 @@ use sr_audit::{LISTED_AT_ONCE, MAX_SOURCES};
 use sr_capture_audit::{Format, Report, Summary, print_clocks, print_lists};
 use sr_capture_script::ScriptFault;
 use sr_capture_sources::print_nodes;
+use sr_capture_streams::print_streams;
 use sr_command_io::{Ended, Progress, beside};
 use sr_options::AuditTask;
 use sr_slots::Keys;
-use sr_sources::Sources;
 use sr_verdict::{Verdict, print_verdicts};
 use std::io::Write;
 use std::rt::Files;
@@ -106,6 +106,13 @@ fn write_front<W: Write>(
     write_clocks(format, known, writer)
 }
 
+/// Writes the lines of the streams and of the sources.
+fn print_seen<W: Write>(format: Format, seen: &Seen, writer: &mut W) -> Result<(), Ended> {
+    print_streams(writer, format, &seen.streams)?;
+    print_nodes(writer, format, &seen.sources)?;
+    Ok(())
+}
+
 /// Writes what is told of the network, the clocks, the streams and the sources, figures and lists. A table is that of the list that is wanted, if one
 /// is.
 fn write_lines<R: AllocGlobal + Eprint + Files, W: Write>(
@@ -116,7 +123,7 @@ fn write_lines<R: AllocGlobal + Eprint + Files, W: Write>(
     times: Times,
     report: Report,
     summary: &Summary,
-    sources: &Sources,
+    seen: &Seen,
     verdicts: &[Verdict],
     format: Format,
     writer: &mut W,
@@ -124,8 +131,7 @@ fn write_lines<R: AllocGlobal + Eprint + Files, W: Write>(
     let front = write_front(format, verdicts, known, writer);
     let ((), report) = beside(front, report)?;
     write_figures(task, format, times, report, writer)?;
-    write_streams(rt, task, writer)?;
-    print_nodes(writer, format, sources)?;
+    print_seen(format, seen, writer)?;
     print_all_lists(rt, task, keys, times, summary.sources, format, writer)?;
     summary.print_end(writer, format)?;
     Ok(())
@@ -140,13 +146,13 @@ pub(crate) fn write_all<R: AllocGlobal + Eprint + Files, W: Write>(
     times: Times,
     report: Report,
     summary: &Summary,
-    sources: &Sources,
+    seen: &Seen,
     verdicts: &[Verdict],
     writer: &mut W,
 ) -> Result<(), Ended> {
     match lines_of(task) {
         Some(format) => write_lines(
-            rt, task, keys, known, times, report, summary, sources, verdicts, format, writer,
+            rt, task, keys, known, times, report, summary, seen, verdicts, format, writer,
         )?,
         None if task.format == sr_options::Format::Html => print_page(
             rt, task, keys, known, times, report, summary, verdicts, writer,

@@ -1,6 +1,6 @@
 use Rattle.sr_streams.specs.Views.{said}
 use Rattle.sr_capture_streams.proofs.Watched.{watched_one}
-use Rattle.sr_capture_streams.proofs.watching.WatchPass.take.Goals as goal
+use Rattle.sr_capture_streams.proofs.watching.StreamWatchPass.take.Goals as goal
 
 pub returns-clause-taken : goal.returns-clause-taken
 returns-clause-taken c x is =
