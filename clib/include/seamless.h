@@ -33,8 +33,8 @@ extern "C" {
 
 // The version of the library that this header came with: 10000 for the first number, 100 for the second, 1 for the third. seamless_version
 // answers that of the library that is linked.
-#define SEAMLESS_VERSION 1000
-#define SEAMLESS_VERSION_TEXT "0.10.0"
+#define SEAMLESS_VERSION 1100
+#define SEAMLESS_VERSION_TEXT "0.11.0"
 
 // The most octets of a frame that goes out.
 #define SEAMLESS_MAX_FRAME 1524

@@ -22,12 +22,12 @@ pub extern "C" fn seamless_abi() -> u32
 }
 
 /// The version of the library: 10000 for the first number, 100 for the second, 1 for the third.
-const VERSION: u32 = 1000;
+const VERSION: u32 = 1100;
 
 /// The version of the library.
 #[unsafe(no_mangle)]
 pub extern "C" fn seamless_version() -> u32
-    ensures { result ≡ 1000 }
+    ensures { result ≡ 1100 }
 {
     VERSION
 }

@@ -21,7 +21,7 @@ use clap::{Arg, ArgGroup, ArgMatches, Command, Error};
 use std::alloc::{AllocError, Global};
 
 /// The version of the program, that of CHANGELOG.md.
-const VERSION: &str = "0.10.0";
+const VERSION: &str = "0.11.0";
 
 /// The version of the program.
 pub const PROGRAM_VERSION: &str = VERSION;
